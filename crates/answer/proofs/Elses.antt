@@ -1,0 +1,39 @@
+-- The laws of a `let .. else` on an answer r, of an enum R. `tag` is the enum's own numbering, `said` what r says, and `says` the kind that
+-- each tag tells. ks are the tags on one side of the pattern. Assumes nothing.
+use Prim.Native.Nat.{ℕ}
+use mathlib.Core.Path.{_≡_, sym, ap, subst, _∙_}
+use mathlib.Core.List.{List, [], _∷_, map}
+use mathlib.Core.Bool.{not}
+use mathlib.Core.Logic.{_⊎_, inl, inr}
+use lib.Dec.{T}
+use mir.Val.{hasKey}
+use types.Run.{OneOf, miss}
+use Rattle.answer.specs.Said.{Said}
+use Rattle.answer.specs.Order.{Row, first, NoneGiven}
+use Rattle.answer.proofs.Rows.{kind, stop, first-none, none-first}
+
+says-one : (says : ℕ → ℕ) (ks : List ℕ) (x : ℕ) → OneOf ks x → OneOf (map says ks) (says x)
+says-one says [] x h = h
+says-one says (k ∷ []) x h = ap says h
+says-one says (k ∷ j ∷ ks) x (inl e) = inl (ap says e)
+says-one says (k ∷ j ∷ ks) x (inr h) = inr (says-one says (j ∷ ks) x h)
+
+module _ {R : Type 0} (said : R → Said) (tag : R → ℕ) (says : ℕ → ℕ) (told : (r : R) → kind (said r) ≡ says (tag r)) where
+  other : (ks : List ℕ) (r : R) (k : ℕ) → T (not (hasKey (map says ks) k)) → OneOf ks (tag r) → kind (said r) ≡ k → ⊥
+  other ks r k out one e = miss (map says ks) k out (subst (OneOf (map says ks)) (sym (told r) ∙ e) (says-one says ks (tag r) one))
+
+  -- in the `else`: the rest s is of none of the kinds, so r is a refusal, whatever the rest
+  pub stopped : (ks : List ℕ) (r : R) (A : List Row) (s t : Said) → T (not (hasKey (map says ks) (kind s))) → OneOf ks (tag r)
+      → said r ≡ first A s → said r ≡ first A t
+  stopped ks r A s t out one q = stop A s t (other ks r (kind s) out one) q
+
+  -- past it: a refusal is of none of the kinds, so no row was given and r is the rest
+  module _ (ks : List ℕ) (r : R) (A : List Row) (s : Said) (out : T (not (hasKey (map says ks) 0))) (one : OneOf ks (tag r)) (q : said r ≡ first A s) where
+    pub passed : NoneGiven A
+    passed = first-none A s (other ks r 0 out one) q
+
+    pub answered : said r ≡ s
+    answered = q ∙ none-first A s passed
+
+    pub went-on : (t : Said) → first A t ≡ t
+    went-on t = none-first A t passed

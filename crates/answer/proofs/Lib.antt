@@ -1,0 +1,4 @@
+pub mod Bools
+pub mod Rows
+pub mod Elses
+pub mod Pair

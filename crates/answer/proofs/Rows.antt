@@ -1,0 +1,51 @@
+-- Laws of `first`. Assumes nothing.
+use Prim.Native.Nat.{ℕ}
+use mathlib.Core.Path.{_≡_, refl, ap}
+use mathlib.Core.List.{List, [], _∷_, _++_}
+use mathlib.Core.Bool.{Bool, true, false}
+use Rattle.answer.specs.Said.{Said, refused, header, task, figures, needs, filled, plan, written}
+use Rattle.answer.specs.Order.{Row, row, first, NoneGiven}
+use Rattle.answer.proofs.Bools.{clash}
+
+-- the rows of an append, one list after the other
+pub first-append : (A B : List Row) (s : Said) → first (A ++ B) s ≡ first A (first B s)
+first-append [] B s = refl
+first-append (row n k true ∷ A) B s = refl
+first-append (row n k false ∷ A) B s = first-append A B s
+
+pub none-append : (A B : List Row) → NoneGiven (A ++ B) → NoneGiven A × NoneGiven B
+none-append [] B p = (tt, p)
+none-append (row n k b ∷ A) B p = let r = none-append A B (p .1) in ((p .0, r .0), r .1)
+
+pub append-none : (A B : List Row) → NoneGiven A → NoneGiven B → NoneGiven (A ++ B)
+append-none [] B p q = q
+append-none (row n k b ∷ A) B p q = (p .0, append-none A B (p .1) q)
+
+-- where no row is given the rest is answered
+pub none-first : (A : List Row) (s : Said) → NoneGiven A → first A s ≡ s
+none-first [] s p = refl
+none-first (row n k true ∷ A) s p = clash (p .0)
+none-first (row n k false ∷ A) s p = none-first A s (p .1)
+
+-- the kind of an answer; a refusal's is 0
+abbrev pub kind : Said → ℕ
+kind (refused n k) = 0
+kind (header n m H) = 1
+kind (task E j p) = 2
+kind (figures C L T) = 3
+kind (needs k) = 4
+kind (filled p) = 5
+kind (plan u v) = 6
+kind written = 7
+
+-- an answer of another kind than the rest is a refusal of the rows, whatever the rest is
+pub stop : (A : List Row) {x : Said} (s t : Said) → (kind x ≡ kind s → ⊥) → x ≡ first A s → x ≡ first A t
+stop [] s t ne q = absurd (ne (ap kind q))
+stop (row n k true ∷ A) s t ne q = q
+stop (row n k false ∷ A) s t ne q = stop A s t ne q
+
+-- behind an answer that is no refusal no row was given
+pub first-none : (A : List Row) {x : Said} (s : Said) → (kind x ≡ 0 → ⊥) → x ≡ first A s → NoneGiven A
+first-none [] s ne q = tt
+first-none (row n k true ∷ A) s ne q = absurd (ne (ap kind q))
+first-none (row n k false ∷ A) s ne q = (refl, first-none A s ne q)

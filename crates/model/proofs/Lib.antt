@@ -1,0 +1,14 @@
+pub mod Bounds
+pub mod Rules
+pub mod Order
+pub mod Sums
+pub mod Least
+pub mod Best
+pub mod Chosen
+pub mod Listing
+pub mod Fills
+pub mod Values
+pub mod Taking
+pub mod Taken
+pub mod Whole
+pub mod Settled

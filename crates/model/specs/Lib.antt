@@ -1,0 +1,7 @@
+pub mod Rules
+pub mod Said
+pub mod Plan
+pub mod Listing
+pub mod Cells
+pub mod Workspace
+pub mod Taking
