@@ -1,5 +1,4 @@
--- The laws of a `let .. else` on an answer r, of an enum R. `tag` is the enum's own numbering, `said` what r says, and `says` the kind that
--- each tag tells. ks are the tags on one side of the pattern. Assumes nothing.
+-- The laws of a `let .. else` on an answer r, of any enum R. ks are the tags on one side of its pattern. Assumes nothing.
 use Prim.Native.Nat.{ℕ}
 use mathlib.Core.Path.{_≡_, sym, ap, subst, _∙_}
 use mathlib.Core.List.{List, [], _∷_, map}
@@ -18,21 +17,29 @@ says-one says (k ∷ []) x h = ap says h
 says-one says (k ∷ j ∷ ks) x (inl e) = inl (ap says e)
 says-one says (k ∷ j ∷ ks) x (inr h) = inr (says-one says (j ∷ ks) x h)
 
-module _ {R : Type 0} (said : R → Said) (tag : R → ℕ) (says : ℕ → ℕ) (told : (r : R) → kind (said r) ≡ says (tag r)) where
-  other : (ks : List ℕ) (r : R) (k : ℕ) → T (not (hasKey (map says ks) k)) → OneOf ks (tag r) → kind (said r) ≡ k → ⊥
-  other ks r k out one e = miss (map says ks) k out (subst (OneOf (map says ks)) (sym (told r) ∙ e) (says-one says ks (tag r) one))
+-- an enum of answers: what each says, its own tag, and the kind that each tag says
+pub record Tells (R : Type 0) : Type 0 where
+  pub said : R → Said
+  pub tag : R → ℕ
+  pub says : ℕ → ℕ
+  pub told : (r : R) → kind (said r) ≡ says (tag r)
+
+module _ {R : Type 0} (e : Tells R) where
+  other : (ks : List ℕ) (r : R) (k : ℕ) → T (not (hasKey (map (e .says) ks) k)) → OneOf ks (e .tag r) → kind (e .said r) ≡ k → ⊥
+  other ks r k out one same =
+      miss (map (e .says) ks) k out (subst (OneOf (map (e .says) ks)) (sym (e .told r) ∙ same) (says-one (e .says) ks (e .tag r) one))
 
   -- in the `else`: the rest s is of none of the kinds, so r is a refusal, whatever the rest
-  pub stopped : (ks : List ℕ) (r : R) (A : List Row) (s t : Said) → T (not (hasKey (map says ks) (kind s))) → OneOf ks (tag r)
-      → said r ≡ first A s → said r ≡ first A t
+  pub stopped : (ks : List ℕ) (r : R) (A : List Row) (s t : Said) → T (not (hasKey (map (e .says) ks) (kind s))) → OneOf ks (e .tag r)
+      → e .said r ≡ first A s → e .said r ≡ first A t
   stopped ks r A s t out one q = stop A s t (other ks r (kind s) out one) q
 
-  -- past it: a refusal is of none of the kinds, so no row was given and r is the rest
-  module _ (ks : List ℕ) (r : R) (A : List Row) (s : Said) (out : T (not (hasKey (map says ks) 0))) (one : OneOf ks (tag r)) (q : said r ≡ first A s) where
+  -- past it: a refusal is of none of the kinds, so no row was given, r is the rest, and any other rest would follow too
+  module _ (ks : List ℕ) (r : R) (A : List Row) (s : Said) (out : T (not (hasKey (map (e .says) ks) 0))) (one : OneOf ks (e .tag r)) (q : e .said r ≡ first A s) where
     pub passed : NoneGiven A
     passed = first-none A s (other ks r 0 out one) q
 
-    pub answered : said r ≡ s
+    pub answered : e .said r ≡ s
     answered = q ∙ none-first A s passed
 
     pub went-on : (t : Said) → first A t ≡ t

@@ -51,9 +51,12 @@ pub record Figures : Type 0 where
   pub span : ℕ
   pub period : ℕ
 
+abbrev pub listed : ℕ → ℕ → ℕ → Figures
+listed C L T = record { work = C; span = L; period = T }
+
 -- those of mode j
 abbrev pub figuresIn : List ℕ → ℕ → Figures
-figuresIn block j = record { work = number 4 (8 + 12 * j) block; span = number 4 (12 + 12 * j) block; period = number 4 (16 + 12 * j) block }
+figuresIn block j = listed (number 4 (8 + 12 * j) block) (number 4 (12 + 12 * j) block) (number 4 (16 + 12 * j) block)
 
 -- and of the modes in turn, left of them from j on
 unfoldable pub figuresFrom : List ℕ → ℕ → ℕ → List Figures

@@ -1,0 +1,5 @@
+pub mod Readings
+pub mod Blocks
+pub mod Rows
+pub mod Accepted
+pub mod Settled
