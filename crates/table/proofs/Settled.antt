@@ -4,16 +4,6 @@ use Rattle.answer.specs.One.{One, OneSeen}
 use Rattle.table.proofs.Readings.{one-reading}
 use Rattle.table.proofs.task_block.Kinds as task-block-kinds
 use Rattle.table.proofs.task_block.Reads as task-block-reads
-use Rattle.table.proofs.read_header.Kinds as read-header-kinds
-use Rattle.table.proofs.read_header.Reads as read-header-reads
-use Rattle.table.proofs.read_task.Kinds as read-task-kinds
-use Rattle.table.proofs.read_task.Reads as read-task-reads
-use Rattle.table.proofs.test_figures.Kinds as test-figures-kinds
-use Rattle.table.proofs.test_figures.Reads as test-figures-reads
-use Rattle.table.proofs.read_mode.Kinds as read-mode-kinds
-use Rattle.table.proofs.read_mode.Reads as read-mode-reads
-use Rattle.table.proofs.check_task.Kinds as check-task-kinds
-use Rattle.table.proofs.check_task.Reads as check-task-reads
 use Rattle.table.proofs.check.Kinds as check-kinds
 use Rattle.table.proofs.check.Reads as check-reads
 use Rattle.table.proofs.ask_task.Kinds as ask-task-kinds
@@ -24,21 +14,6 @@ use Rattle.table.proofs.ask_mode.Reads as ask-mode-reads
 -- the bytes of the part that is answered; its pointer and its ghost name are no part of a promise
 pub task-block-one : OneSeen task-block-kinds.ps task-block-kinds.r (λ κs x. x .now) task-block-reads.Post
 task-block-one κs a x y s t p q = (p ∙ sym q, refl)
-
-pub read-header-one : One read-header-kinds.ps read-header-kinds.r read-header-reads.Post
-read-header-one κs a x y s t p q = (one-reading x y p q, refl)
-
-pub read-task-one : One read-task-kinds.ps read-task-kinds.r read-task-reads.Post
-read-task-one κs a x y s t p q = (one-reading x y p q, refl)
-
-pub test-figures-one : One test-figures-kinds.ps test-figures-kinds.r test-figures-reads.Post
-test-figures-one κs a x y s t p q = (one-reading x y p q, refl)
-
-pub read-mode-one : One read-mode-kinds.ps read-mode-kinds.r read-mode-reads.Post
-read-mode-one κs a x y s t p q = (one-reading x y p q, refl)
-
-pub check-task-one : One check-task-kinds.ps check-task-kinds.r check-task-reads.Post
-check-task-one κs a x y s t p q = (one-reading x y p q, refl)
 
 pub check-one : One check-kinds.ps check-kinds.r check-reads.Post
 check-one κs a x y s t p q = (one-reading x y p q, refl)

@@ -6,14 +6,14 @@ ghost use lib.Dec.{eqb};
 ghost use lib.ListN.{take, drop};
 ghost use Rattle.answer.specs.Said.{refused, figures};
 ghost use Rattle.answer.specs.Order.{first};
-ghost use Rattle.block.specs.Layout.{editionIn, headerUnused, taskNumberIn, taskUnused, listed, figuresIn};
+ghost use Rattle.block.specs.Bytes.{number};
+ghost use Rattle.block.specs.Layout.{headerUnused, taskNumberIn, taskUnused, listed, figuresIn};
 ghost use Rattle.block.specs.Tests.{figureRows};
 ghost use Rattle.table.specs.Said.{said};
 ghost use Rattle.table.specs.Order.{
   headerBlock,
   taskBlock,
   wrongCheck,
-  wrongKind,
   headerRows,
   headerSaid,
   taskRows,
@@ -93,16 +93,11 @@ fn wrong_check(block: &[u8]) -> bool
     check_of(block) != get32(block, 508)
 }
 
-fn wrong_kind(block: &[u8], kind: u8) -> bool
-    ensures { λ r. ⌜ r ≡ wrongKind kind (now (block .entry)) ⌝ }
+// Whether the byte at an offset is another than the one that has to stand there.
+fn other_byte(block: &[u8], offset: usize, right: u8) -> bool
+    ensures { λ r. ⌜ r ≡ not (eqb (number 1 offset (now (block .entry))) right) ⌝ }
 {
-    get8(block, 0) != kind
-}
-
-fn other_edition(block: &[u8]) -> bool
-    ensures { λ r. ⌜ r ≡ not (eqb (editionIn (now (block .entry))) 1) ⌝ }
-{
-    get8(block, 1) != 1
+    get8(block, offset) != right
 }
 
 fn header_unused(block: &[u8]) -> bool
@@ -112,7 +107,7 @@ fn header_unused(block: &[u8]) -> bool
 }
 
 // The numbers of a header block, after its tests.
-pub fn read_header(block: &[u8]) -> Reading
+fn read_header(block: &[u8]) -> Reading
     ensures { λ r. ⌜ said r ≡ first (headerRows (now (block .entry))) (headerSaid (now (block .entry))) ⌝ }
 {
     let tasks = get16(block, 2);
@@ -121,10 +116,10 @@ pub fn read_header(block: &[u8]) -> Reading
     if wrong_check(block) {
         return refuse(2, 0);
     }
-    if wrong_kind(block, 1) {
+    if other_byte(block, 0, 1) {
         return refuse(3, 0);
     }
-    if other_edition(block) {
+    if other_byte(block, 1, 1) {
         return refuse(4, 0);
     }
     if wrong_limits(tasks, cores, common) {
@@ -168,7 +163,7 @@ fn task_numbers(block: &[u8]) -> Reading
 }
 
 // The numbers of a task block, after its tests: the task number has to be `task`, and a refusal names `at`.
-pub fn read_task(block: &[u8], task: u16, at: u32) -> Reading
+fn read_task(block: &[u8], task: u16, at: u32) -> Reading
     ensures { λ r. ⌜ said r ≡ first (taskRows task at (now (block .entry))) (taskSaid (now (block .entry))) ⌝ }
 {
     let got = task_numbers(block);
@@ -183,7 +178,7 @@ pub fn read_task(block: &[u8], task: u16, at: u32) -> Reading
     if wrong_check(block) {
         return refuse(2, at);
     }
-    if wrong_kind(block, 2) {
+    if other_byte(block, 0, 2) {
         return refuse(3, at);
     }
     if other_number(block, task) {
@@ -213,7 +208,7 @@ fn mode_figures(block: &[u8], mode: u8) -> Reading
 }
 
 // A mode's figures, after their tests.
-pub fn test_figures(common: u32, work: u32, span: u32, period: u32, at: u32) -> Reading
+fn test_figures(common: u32, work: u32, span: u32, period: u32, at: u32) -> Reading
     ensures { λ r. ⌜ said r ≡ first (figureRows at common (listed work span period)) (figures work span period) ⌝ }
 {
     if wrong_period(common, period) {
@@ -229,7 +224,7 @@ pub fn test_figures(common: u32, work: u32, span: u32, period: u32, at: u32) -> 
 }
 
 // The figures of a mode of a task block, after their tests.
-pub fn read_mode(block: &[u8], common: u32, mode: u8, at: u32) -> Reading
+fn read_mode(block: &[u8], common: u32, mode: u8, at: u32) -> Reading
     ensures { λ r. ⌜ said r ≡ first (figureRows at common (figuresIn (now (block .entry)) mode)) (figuresSaid (figuresIn (now (block .entry)) mode)) ⌝ }
 {
     let got = mode_figures(block, mode);
@@ -240,27 +235,17 @@ pub fn read_mode(block: &[u8], common: u32, mode: u8, at: u32) -> Reading
 }
 
 // A task block, then its modes in turn.
-pub fn check_task(block: &[u8], common: u32, task: u16, at: u32) -> Reading
+fn check_task(block: &[u8], common: u32, task: u16, at: u32) -> Reading
     ensures { λ r. ⌜ said r ≡ first (wholeTaskRows common task at (now (block .entry))) (taskSaid (now (block .entry))) ⌝ }
 {
     let got = read_task(block, task, at);
-    let Reading::Task {
-        elasticity: _,
-        modes,
-        permitted: _,
-    } = got
-    else {
+    let Reading::Task { modes, .. } = got else {
         return got;
     };
     let mut j: u8 = 0;
     while j < modes {
         let one = read_mode(block, common, j, at);
-        let Reading::Figures {
-            work: _,
-            span: _,
-            period: _,
-        } = one
-        else {
+        let Reading::Figures { .. } = one else {
             return one;
         };
         j += 1;
@@ -289,12 +274,7 @@ fn check_front(table: &[u8]) -> Reading
         return refuse(1, 0);
     }
     let got = read_header(block_from(table, 0));
-    let Reading::Header {
-        tasks,
-        cores: _,
-        common: _,
-    } = got
-    else {
+    let Reading::Header { tasks, .. } = got else {
         return got;
     };
     if other_length(table, tasks) {
@@ -308,24 +288,14 @@ pub fn check(table: &[u8]) -> Reading
     ensures { λ r. ⌜ said r ≡ tableSaid (now (table .entry)) ⌝ }
 {
     let got = check_front(table);
-    let Reading::Header {
-        tasks,
-        cores: _,
-        common,
-    } = got
-    else {
+    let Reading::Header { tasks, common, .. } = got else {
         return got;
     };
     let mut i: u16 = 0;
     while i < tasks {
         let at = i as u32;
         let one = check_task(task_block(table, at), common, i, at + 1);
-        let Reading::Task {
-            elasticity: _,
-            modes: _,
-            permitted: _,
-        } = one
-        else {
+        let Reading::Task { .. } = one else {
             return one;
         };
         i += 1;
@@ -338,12 +308,7 @@ pub fn ask_task(table: &[u8], task: u32) -> Reading
     ensures { λ r. ⌜ said r ≡ askTaskSaid (now (table .entry)) task ⌝ }
 {
     let got = check(table);
-    let Reading::Header {
-        tasks,
-        cores: _,
-        common: _,
-    } = got
-    else {
+    let Reading::Header { tasks, .. } = got else {
         return got;
     };
     if tasks as u32 <= task {
@@ -357,12 +322,7 @@ pub fn ask_mode(table: &[u8], task: u32, mode: u32) -> Reading
     ensures { λ r. ⌜ said r ≡ askModeSaid (now (table .entry)) task mode ⌝ }
 {
     let got = ask_task(table, task);
-    let Reading::Task {
-        elasticity: _,
-        modes,
-        permitted: _,
-    } = got
-    else {
+    let Reading::Task { modes, .. } = got else {
         return got;
     };
     if modes as u32 <= mode {

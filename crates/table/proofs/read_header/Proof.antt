@@ -35,8 +35,8 @@ refuse-requires c κs = search needs
 returns : tie.Need-returns
 returns c = c .refuse .ensures ∙ sym (rw (found (c .before .before .wrong-check .ensures) (c .before .if1 .taken)))
 
-wrong-kind-requires : tie.Need-wrong-kind-requires
-wrong-kind-requires c κs = search needs
+other-byte-requires : tie.Need-other-byte-requires
+other-byte-requires c κs = search needs
 
 refuse-requires-2 : tie.Need-refuse-requires-2
 refuse-requires-2 c κs = search needs
@@ -45,19 +45,19 @@ on1 : (c : tie.Else1) → Went (c .before .before .before .before .before .befor
 on1 c = rw (found (c .before .wrong-check .ensures) (c .if1 .left))
 
 returns-2 : tie.Need-returns-2
-returns-2 c = c .refuse2 .ensures ∙ sym (on1 (c .before .before .before) ∙ rw (found (c .before .before .wrong-kind .ensures) (c .before .if2 .taken)))
+returns-2 c = c .refuse2 .ensures ∙ sym (on1 (c .before .before .before) ∙ rw (found (c .before .before .other-byte .ensures) (c .before .if2 .taken)))
 
-other-edition-requires : tie.Need-other-edition-requires
-other-edition-requires c κs = search needs
+other-byte-requires-2 : tie.Need-other-byte-requires-2
+other-byte-requires-2 c κs = search needs
 
 refuse-requires-3 : tie.Need-refuse-requires-3
 refuse-requires-3 c κs = search needs
 
 on2 : (c : tie.Else2) → Went (c .before .before .before .before .before .before .before .before) 2
-on2 c = on1 (c .before .before) ∙ rw (found (c .before .wrong-kind .ensures) (c .if2 .left))
+on2 c = on1 (c .before .before) ∙ rw (found (c .before .other-byte .ensures) (c .if2 .left))
 
 returns-3 : tie.Need-returns-3
-returns-3 c = c .refuse3 .ensures ∙ sym (on2 (c .before .before .before) ∙ rw (found (c .before .before .other-edition .ensures) (c .before .if3 .taken)))
+returns-3 c = c .refuse3 .ensures ∙ sym (on2 (c .before .before .before) ∙ rw (found (c .before .before .other-byte2 .ensures) (c .before .if3 .taken)))
 
 wrong-limits-requires : tie.Need-wrong-limits-requires
 wrong-limits-requires c κs = search needs
@@ -72,7 +72,7 @@ refuse-requires-4 : tie.Need-refuse-requires-4
 refuse-requires-4 c κs = search needs
 
 on3 : (c : tie.Else3) → Went (c .before .before .before .before .before .before .before .before .before .before) 3
-on3 c = on2 (c .before .before) ∙ rw (found (c .before .other-edition .ensures) (c .if3 .left))
+on3 c = on2 (c .before .before) ∙ rw (found (c .before .other-byte2 .ensures) (c .if3 .left))
 
 returns-4 : tie.Need-returns-4
 returns-4 c = c .refuse4 .ensures ∙ sym (on3 (c .before .before .before) ∙ rw (found (limits (c .before .before)) (c .before .if4 .taken)))
@@ -107,10 +107,10 @@ read-header-spec =
     wrong-check-requires
     refuse-requires
     returns
-    wrong-kind-requires
+    other-byte-requires
     refuse-requires-2
     returns-2
-    other-edition-requires
+    other-byte-requires-2
     refuse-requires-3
     returns-3
     wrong-limits-requires

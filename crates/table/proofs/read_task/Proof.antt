@@ -49,8 +49,8 @@ refuse-requires c κs = search needs
 returns-2 : tie.Need-returns-2
 returns-2 c = c .refuse .ensures ∙ sym (rw (found (c .before .before .wrong-check .ensures) (c .before .if1 .taken)))
 
-wrong-kind-requires : tie.Need-wrong-kind-requires
-wrong-kind-requires c κs = search needs
+other-byte-requires : tie.Need-other-byte-requires
+other-byte-requires c κs = search needs
 
 refuse-requires-2 : tie.Need-refuse-requires-2
 refuse-requires-2 c κs = search needs
@@ -59,7 +59,7 @@ on1 : (c : tie.Else1) → Went (c .before .before .before .before .before .befor
 on1 c = rw (found (c .before .wrong-check .ensures) (c .if1 .left))
 
 returns-3 : tie.Need-returns-3
-returns-3 c = c .refuse2 .ensures ∙ sym (on1 (c .before .before .before) ∙ rw (found (c .before .before .wrong-kind .ensures) (c .before .if2 .taken)))
+returns-3 c = c .refuse2 .ensures ∙ sym (on1 (c .before .before .before) ∙ rw (found (c .before .before .other-byte .ensures) (c .before .if2 .taken)))
 
 other-number-requires : tie.Need-other-number-requires
 other-number-requires c κs = search needs
@@ -68,7 +68,7 @@ refuse-requires-3 : tie.Need-refuse-requires-3
 refuse-requires-3 c κs = search needs
 
 on2 : (c : tie.Else2) → Went (c .before .before .before .before .before .before .before .before .before) 2
-on2 c = on1 (c .before .before) ∙ rw (found (c .before .wrong-kind .ensures) (c .if2 .left))
+on2 c = on1 (c .before .before) ∙ rw (found (c .before .other-byte .ensures) (c .if2 .left))
 
 returns-4 : tie.Need-returns-4
 returns-4 c = c .refuse3 .ensures ∙ sym (on2 (c .before .before .before) ∙ rw (found (c .before .before .other-number .ensures) (c .before .if3 .taken)))
@@ -147,7 +147,7 @@ read-task-spec =
     wrong-check-requires
     refuse-requires
     returns-2
-    wrong-kind-requires
+    other-byte-requires
     refuse-requires-2
     returns-3
     other-number-requires
