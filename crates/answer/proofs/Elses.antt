@@ -3,7 +3,7 @@ use Prim.Native.Nat.{ℕ}
 use mathlib.Core.Path.{_≡_, sym, ap, subst, _∙_}
 use mathlib.Core.List.{List, [], _∷_, map}
 use mathlib.Core.Bool.{not}
-use mathlib.Core.Logic.{_⊎_, inl, inr}
+use mathlib.Core.Logic.{inl, inr}
 use lib.Dec.{T}
 use mir.Val.{hasKey}
 use types.Run.{OneOf, miss}
@@ -35,7 +35,8 @@ module _ {R : Type 0} (e : Tells R) where
   stopped ks r A s t out one q = stop A s t (other ks r (kind s) out one) q
 
   -- past it: a refusal is of none of the kinds, so no row was given, r is the rest, and any other rest would follow too
-  module _ (ks : List ℕ) (r : R) (A : List Row) (s : Said) (out : T (not (hasKey (map (e .says) ks) 0))) (one : OneOf ks (e .tag r)) (q : e .said r ≡ first A s) where
+  module _ (ks : List ℕ) (r : R) (A : List Row) (s : Said) (out : T (not (hasKey (map (e .says) ks) 0))) (one : OneOf ks (e .tag r))
+      (q : e .said r ≡ first A s) where
     pub passed : NoneGiven A
     passed = first-none A s (other ks r 0 out one) q
 

@@ -2,7 +2,7 @@
 use Prim.Native.Nat.{ℕ}
 use mathlib.Core.Path.{_≡_, refl, ap}
 use mathlib.Core.List.{List, [], _∷_, _++_}
-use mathlib.Core.Bool.{Bool, true, false}
+use mathlib.Core.Bool.{true, false}
 use Rattle.answer.specs.Said.{Said, refused, header, task, figures, needs, filled, plan, written}
 use Rattle.answer.specs.Order.{Row, row, first, NoneGiven}
 use Rattle.answer.proofs.Bools.{clash}

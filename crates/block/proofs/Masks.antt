@@ -7,7 +7,7 @@ use lib.Bits.{bitAnd, and-mask}
 use lib.Pow.{pow-mono, shr-lt}
 use lib.Dec.{eqb}
 use mathlib.Core.Path.{_≡_, sym, ap, subst}
-use mathlib.Core.Bool.{Bool, true, false, _||_}
+use mathlib.Core.Bool.{true, false, _||_}
 use mathlib.Core.Logic.{⊎-elim}
 use Rattle.answer.proofs.Bools.{clash, or-true, or-false}
 use Rattle.block.specs.Tests.{allows, anyAllowed}

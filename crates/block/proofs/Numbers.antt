@@ -3,7 +3,7 @@ use Prim.Native.Nat.{ℕ, suc, zero, _+_, _*_}
 use native.Mathlib.Omega.{arith}
 use mathlib.Core.Path.{_≡_, refl}
 use mathlib.Core.List.{List, [], _∷_}
-use lib.ListN.{getD, take, drop}
+use lib.ListN.{getD}
 use lib.Seq.{take-nil, drop-nil}
 use Rattle.block.specs.Bytes.{value, number}
 

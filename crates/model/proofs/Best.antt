@@ -1,17 +1,14 @@
 -- `best` is the least cost over the selections that fit: a lower bound, attained where it is not the mark, and falling in the column. Assumes nothing.
-use mathlib.Core.Path.{_≡_, refl, ap, ap₂, sym, _∙_}
-use mathlib.Core.Logic.{_⊎_, inl, inr, _≢_, _↔_}
-use mathlib.Core.Bool.{Bool, true, false, cond}
+use mathlib.Core.Path.{_≡_, refl}
+use mathlib.Core.Logic.{inl, inr, _≢_, _↔_}
 use mathlib.Core.List.{List, [], _∷_}
-use Prim.Native.Nat.{ℕ, zero, suc, _+_, _-_, _*_, _≤_, _<_, min}
-use native.Mathlib.Nat.{le-trans}
+use Prim.Native.Nat.{ℕ, _-_, _*_, _≤_}
 use native.Mathlib.Omega.{arith}
-use lib.Dec.{T}
-use lib.ListN.{length, getD}
-use Rattle.model.specs.Plan.{Option, Task, option, Lawful, Fits, totalCores, totalCost, dearest, Priced, Limits}
-use Rattle.model.specs.Cells.{mark, ceiling, plus, onward, least, best}
-use Rattle.model.proofs.Sums.{Sound, sound-le, within, plus-within, plus-is}
-use Rattle.model.proofs.Least.{least-sound, least-low, least-found, Found}
+use lib.ListN.{length}
+use Rattle.model.specs.Plan.{Task, option, Lawful, Fits, totalCores, totalCost, dearest, Priced, Limits}
+use Rattle.model.specs.Cells.{mark, ceiling, onward, best}
+use Rattle.model.proofs.Sums.{Sound, sound-le, plus-within, plus-is}
+use Rattle.model.proofs.Least.{least-sound, least-low, least-found}
 
 pub best-sound : (ts : List Task) (c : ℕ) → Sound (best ts c)
 unfolding best

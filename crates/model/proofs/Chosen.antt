@@ -1,19 +1,19 @@
 -- The trace over the defined values: it is a selection of the cell's cost, and the lowest of those. Assumes nothing.
-use mathlib.Core.Path.{_≡_, refl, ap, ap₂, sym, _∙_}
-use mathlib.Core.Logic.{_⊎_, inl, inr}
+use mathlib.Core.Path.{_≡_, refl, sym, _∙_}
+use mathlib.Core.Logic.{inl, inr}
 use mathlib.Core.List.{List, [], _∷_}
-use Prim.Native.Nat.{ℕ, zero, suc, _+_, _-_, _≤_, _<_}
+use Prim.Native.Nat.{ℕ, _+_, _-_, _≤_, _<_}
 use native.Mathlib.Omega.{arith}
 use lib.Dec.{T}
 use lib.ListN.{length}
 use lib.Arith.{lt-of-le-ne}
 use native.Mathlib.Decide.{ℕ-discrete}
-use Rattle.model.specs.Plan.{Option, Task, option, Lawful, Lower, totalCores, totalCost}
-use Rattle.model.specs.Cells.{ceiling, plus, onward, least, best}
+use Rattle.model.specs.Plan.{Task, option, Lawful, Lower, totalCores, totalCost}
+use Rattle.model.specs.Cells.{ceiling, onward, best}
 use Rattle.model.specs.Taking.{keeps, lowest}
 use Rattle.model.proofs.Sums.{plus-within, plus-is}
-use Rattle.model.proofs.Least.{least-low, least-found, Found, First, first-at, keeps-yes, keeps-true}
-use Rattle.model.proofs.Best.{best-low, Attained}
+use Rattle.model.proofs.Least.{least-low, least-found, first-at, keeps-yes, keeps-true}
+use Rattle.model.proofs.Best.{best-low}
 
 -- the mode of the first task, and the selection
 unfoldable pub pick : Task → List Task → ℕ → ℕ
@@ -34,13 +34,15 @@ kept : (t : Task) (ts : List Task) (c : ℕ) → best (t ∷ ts) c ≤ ceiling �
 unfolding pick best onward
 kept t ts c h =
     let f = least-found t (best ts) c h in
-    let r = first-at (keeps (best ts) c (best (t ∷ ts) c)) t (f .at) (f .there) (keeps-yes (best ts) c (best (t ∷ ts) c) (option t (f .at)) (f .allowed) (f .small) (f .same)) in
+    let r = first-at (keeps (best ts) c (best (t ∷ ts) c)) t (f .at) (f .there)
+    (keeps-yes (best ts) c (best (t ∷ ts) c) (option t (f .at)) (f .allowed) (f .small) (f .same)) in
     let j : ℕ = pick t ts c in
     let k = keeps-true (best ts) c (best (t ∷ ts) c) (option t j) (r .passes) in
     let e = plus-is (option t j .cost) (best ts (c - option t j .need)) (omega (arith, k .2)) in
     record { there = r .there; allowed = k .0; small = k .1; sum = sym (k .2) ∙ e }
 
-pub chosen-right : (ts : List Task) (c : ℕ) → best ts c ≤ ceiling → Lawful ts (chosen ts c) × (totalCores ts (chosen ts c) ≤ c) × (totalCost ts (chosen ts c) ≡ best ts c)
+pub chosen-right : (ts : List Task) (c : ℕ) → best ts c ≤ ceiling
+    → Lawful ts (chosen ts c) × (totalCores ts (chosen ts c) ≤ c) × (totalCost ts (chosen ts c) ≡ best ts c)
 unfolding chosen totalCores totalCost
 chosen-right [] c h = (tt, omega arith, unfold best in refl)
 chosen-right (t ∷ ts) c h =
@@ -67,7 +69,8 @@ also t ts c k s h l f p =
     record { rest = n; costs = omega arith; late = (first-at (keeps (best ts) c (best (t ∷ ts) c)) t k (l .0) y) .early }
 
 -- the chosen one is the lowest of that cost
-pub chosen-lower : (ts : List Task) (c : ℕ) (s : List ℕ) → best ts c ≤ ceiling → Lawful ts s → totalCores ts s ≤ c → totalCost ts s ≡ best ts c → Lower (chosen ts c) s
+pub chosen-lower : (ts : List Task) (c : ℕ) (s : List ℕ) → best ts c ≤ ceiling → Lawful ts s → totalCores ts s ≤ c → totalCost ts s ≡ best ts c
+    → Lower (chosen ts c) s
 unfolding chosen
 chosen-lower [] c s h l f p = tt
 chosen-lower (t ∷ ts) c [] h l f p = absurd l

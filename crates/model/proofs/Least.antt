@@ -1,17 +1,17 @@
 -- Laws of `least`, of `firstOf` and of `keeps`. Assumes nothing.
-use mathlib.Core.Path.{_≡_, refl, ap, ap₂, sym, _∙_}
+use mathlib.Core.Path.{_≡_, refl, ap₂, sym, _∙_}
 use mathlib.Core.Logic.{_⊎_, inl, inr}
 use mathlib.Core.Bool.{Bool, true, false, cond, _&&_}
-use mathlib.Core.List.{List, [], _∷_}
-use Prim.Native.Nat.{ℕ, zero, suc, _+_, _-_, _≤_, _<_, min}
+use mathlib.Core.List.{[], _∷_}
+use Prim.Native.Nat.{ℕ, zero, suc, _-_, _≤_, _<_, min}
 use native.Mathlib.Nat.{not-suc-le-zero, le-of-suc-le-suc, min-le-left, min-le-right, le-trans}
 use native.Mathlib.Omega.{arith}
 use lib.Dec.{T, leb, eqb}
 use borrow.Author.Tests.{leb-true, leb-false, eqb-true, eq-eqb}
-use lib.ListN.{length, getD}
+use lib.ListN.{length}
 use Rattle.answer.proofs.Bools.{clash}
 use Rattle.model.specs.Plan.{Option, Task, option}
-use Rattle.model.specs.Cells.{mark, ceiling, plus, may, onward, least}
+use Rattle.model.specs.Cells.{mark, ceiling, may, onward, least}
 use Rattle.model.specs.Taking.{firstOf, keeps, lowest}
 use Rattle.model.proofs.Sums.{Sound, plus-sound, may-yes, may-true}
 
@@ -42,7 +42,8 @@ least-sound [] next c = inr refl
 least-sound (o ∷ os) next c = min-sound (offer o next c) (least os next c) (offer-sound o next c) (least-sound os next c)
 
 -- a lower bound
-pub least-low : (t : Task) (next : ℕ → ℕ) (c j : ℕ) → j < length t → T (option t j .permitted) → option t j .need ≤ c → least t next c ≤ onward (option t j) next c
+pub least-low : (t : Task) (next : ℕ → ℕ) (c j : ℕ) → j < length t → T (option t j .permitted) → option t j .need ≤ c
+    → least t next c ≤ onward (option t j) next c
 unfolding least
 least-low [] next c j h p n = absurd (not-suc-le-zero h)
 least-low (o ∷ os) next c zero h p n =
@@ -84,7 +85,9 @@ least-found (o ∷ os) next c h = go (min-pick (offer o next c) (least os next c
     b : ℕ
     b = least os next c
 
-    go : ((offer o next c ≤ least os next c) × (min (offer o next c) (least os next c) ≡ offer o next c)) ⊎ ((least os next c < offer o next c) × (min (offer o next c) (least os next c) ≡ least os next c)) → (least os next c ≤ ceiling → Found os next c (least os next c)) → Found (o ∷ os) next c (min (offer o next c) (least os next c))
+    go : ((offer o next c ≤ least os next c) × (min (offer o next c) (least os next c) ≡ offer o next c)) ⊎
+        ((least os next c < offer o next c) × (min (offer o next c) (least os next c) ≡ least os next c)) →
+        (least os next c ≤ ceiling → Found os next c (least os next c)) → Found (o ∷ os) next c (min (offer o next c) (least os next c))
     go (inl k) ih =
         let e : may o c ≡ true = offer-taken o next c (omega arith) in
         let x : offer o next c ≡ onward o next c = simp e in

@@ -1,18 +1,17 @@
 -- The listing gives the plan, and gives none exactly where no selection fits. Assumes nothing.
-use mathlib.Core.Path.{_≡_, refl, ap, ap₂, sym, subst, _∙_}
+use mathlib.Core.Path.{_≡_, refl, ap, sym}
 use mathlib.Core.Logic.{_⊎_, inl, inr, _↔_}
 use mathlib.Core.Bool.{Bool, true, false, cond, _&&_, _||_}
 use mathlib.Core.List.{List, [], _∷_, _++_, map}
-use Prim.Native.Nat.{ℕ, zero, suc, _+_, _-_, _≤_, _<_}
+use Prim.Native.Nat.{ℕ, zero, suc, _+_, _-_, _<_}
 use native.Mathlib.Nat.{not-suc-le-zero, le-of-suc-le-suc, zero-add}
 use native.Mathlib.Omega.{arith}
-use native.Mathlib.Decide.{ℕ-discrete, decLt}
 use lib.Dec.{T, leb, ltb, eqb}
 use lib.ListN.{length}
 use lib.Arith.{lt-of-le-ne}
 use borrow.Author.Tests.{leb-true, leb-false, ltb-true, ltb-false, eqb-true, eqb-false}
 use Rattle.answer.proofs.Bools.{clash}
-use Rattle.model.specs.Plan.{Option, Task, option, Lawful, Fits, NothingFits, Then, Lower, AsGood, IsPlan, totalCores, totalCost}
+use Rattle.model.specs.Plan.{Task, option, Lawful, Fits, NothingFits, Then, Lower, AsGood, IsPlan, totalCores, totalCost}
 use Rattle.model.specs.Listing.{numbers, each, selections, then, lower, asGood, Listed, none, some, better, bestOf, planOf}
 use Rattle.model.proofs.Order.{one-plan, as-good-trans}
 
@@ -146,7 +145,8 @@ numbers-in i (o ∷ os) j h = go (o .permitted) refl h (numbers-in (suc i) os j)
     later : Numbered (suc i) os j → Numbered i (o ∷ os) j
     later x = record { at = suc (x .at); is = omega (arith, x .is); there = omega (arith, x .there); allowed = x .allowed }
 
-    go : (b : Bool) → o .permitted ≡ b → In j (cond b (i ∷ numbers (suc i) os) (numbers (suc i) os)) → (In j (numbers (suc i) os) → Numbered (suc i) os j) → Numbered i (o ∷ os) j
+    go : (b : Bool) → o .permitted ≡ b → In j (cond b (i ∷ numbers (suc i) os) (numbers (suc i) os))
+        → (In j (numbers (suc i) os) → Numbered (suc i) os j) → Numbered i (o ∷ os) j
     go true e (inl q) f = record { at = 0; is = omega arith; there = omega arith; allowed = rw e tt }
     go true e (inr q) f = later (f q)
     go false e q f = later (f q)
@@ -176,7 +176,8 @@ Right ts m ss (some s) = In s ss × Fits ts m s × ((r : List ℕ) → In r ss �
 same-good : (ts : List Task) (s r : List ℕ) → r ≡ s → AsGood ts s r
 same-good ts s r e = rw e (inr (refl, inr (refl, lower-refl s)))
 
-better-right : (ts : List Task) (m : ℕ) (s : List ℕ) (ss : List (List ℕ)) (o : Listed) → Fits ts m s → Right ts m ss o → Right ts m (s ∷ ss) (better ts s o)
+better-right : (ts : List Task) (m : ℕ) (s : List ℕ) (ss : List (List ℕ)) (o : Listed) → Fits ts m s → Right ts m ss o
+    → Right ts m (s ∷ ss) (better ts s o)
 unfolding better
 better-right ts m s ss none f h = (inl refl, f, good)
   where
@@ -214,7 +215,8 @@ unfolding bestOf
 best-of-right ts m [] = λ r h k. h
 best-of-right ts m (s ∷ ss) = go (leb (totalCores ts s) m) refl (best-of-right ts m ss)
   where
-    go : (b : Bool) → leb (totalCores ts s) m ≡ b → Right ts m ss (bestOf ts m ss) → Right ts m (s ∷ ss) (cond b (better ts s (bestOf ts m ss)) (bestOf ts m ss))
+    go : (b : Bool) → leb (totalCores ts s) m ≡ b → Right ts m ss (bestOf ts m ss)
+        → Right ts m (s ∷ ss) (cond b (better ts s (bestOf ts m ss)) (bestOf ts m ss))
     go true e h = better-right ts m s ss (bestOf ts m ss) (leb-true (totalCores ts s) m e) h
     go false e h = skip-right ts m s ss (bestOf ts m ss) (leb-false (totalCores ts s) m e) h
 

@@ -1,8 +1,8 @@
 -- The order among selections: it goes on, two that are as good as each other are equal, and so there is at most one plan. Assumes nothing.
 use mathlib.Core.Path.{_≡_, refl, ap₂, _∙_}
-use mathlib.Core.Logic.{_⊎_, inl, inr}
+use mathlib.Core.Logic.{inl, inr}
 use mathlib.Core.List.{List, [], _∷_}
-use Prim.Native.Nat.{ℕ, _<_}
+use Prim.Native.Nat.{ℕ}
 use native.Mathlib.Omega.{arith}
 use Rattle.model.specs.Plan.{Task, Then, Lower, AsGood, IsPlan, totalCores, totalCost}
 
@@ -40,7 +40,8 @@ as-good-both ts s s' a b =
 
 pub as-good-trans : (ts : List Task) (r s t : List ℕ) → AsGood ts r s → AsGood ts s t → AsGood ts r t
 as-good-trans ts r s t =
-    then-trans (totalCost ts r) (totalCost ts s) (totalCost ts t) (then-trans (totalCores ts r) (totalCores ts s) (totalCores ts t) (lower-trans r s t))
+    then-trans (totalCost ts r) (totalCost ts s) (totalCost ts t)
+    (then-trans (totalCores ts r) (totalCores ts s) (totalCores ts t) (lower-trans r s t))
 
 -- two plans are equal
 pub one-plan : (ts : List Task) (m : ℕ) (s s' : List ℕ) → IsPlan ts m s → IsPlan ts m s' → s ≡ s'

@@ -1,17 +1,16 @@
 -- Over cells that hold their defined values the answer is right, it is never 18, and only one answer is right. Assumes nothing.
 use mathlib.Core.Path.{_≡_, refl, ap, ap₂, sym, _∙_}
 use mathlib.Core.Logic.{_⊎_, inl, inr, ⊎-elim, _↔_}
-use mathlib.Core.Bool.{Bool, true, false, cond, not, _&&_}
+use mathlib.Core.Bool.{Bool, true, false, cond, not}
 use mathlib.Core.List.{List, [], _∷_}
 use Prim.Native.Nat.{ℕ, suc, _-_}
 use native.Mathlib.Omega.{arith}
-use lib.Dec.{eqb, ltb}
+use lib.Dec.{eqb}
 use lib.ListN.{length}
 use borrow.Author.Tests.{eqb-true, eqb-false, lt-ltb}
 use Rattle.answer.specs.Said.{Said, refused, plan}
-use Rattle.answer.specs.Order.{row, first}
 use Rattle.answer.proofs.Bools.{clash}
-use Rattle.model.specs.Plan.{Task, option, Lawful, IsPlan, NothingFits, Limits, totalCores, totalCost}
+use Rattle.model.specs.Plan.{Task, option, Lawful, NothingFits, Limits, totalCores, totalCost}
 use Rattle.model.specs.Cells.{mark}
 use Rattle.model.specs.Taking.{lowest, used, trace, allKeep, takeRows, takeSaid, takeModes, Holds, Right}
 use Rattle.model.proofs.Order.{one-plan}
@@ -23,7 +22,8 @@ unfolding allKeep trace
 lawful-keeps rows i [] c l = refl
 lawful-keeps rows i (t ∷ ts) c l =
     let j : ℕ = lowest t (rows (suc i)) c (rows i c) in
-    rw (lt-ltb (lowest t (rows (suc i)) c (rows i c)) (length t) (l .0)) (lawful-keeps rows (suc i) ts (c - option t (lowest t (rows (suc i)) c (rows i c)) .need) (l .2))
+    rw (lt-ltb (lowest t (rows (suc i)) c (rows i c)) (length t) (l .0))
+    (lawful-keeps rows (suc i) ts (c - option t (lowest t (rows (suc i)) c (rows i c)) .need) (l .2))
 
 module _ (rows : ℕ → ℕ → ℕ) (ts : List Task) (m : ℕ) (l : Limits ts) (a : Holds rows ts m) where
   -- the plan with its cores and its cost, or 14 where no selection fits
@@ -37,13 +37,15 @@ module _ (rows : ℕ → ℕ → ℕ) (ts : List Task) (m : ℕ) (l : Limits ts)
       kept t false e = clash (sym (lawful-keeps rows 0 ts (used (rows 0) m) (t .plan .lawful)) ∙ e)
 
       go : (b : Bool) → eqb (rows 0 m) mark ≡ b
-          → Right ts m (cond b (refused 14 0) (cond (not (allKeep rows 0 ts (used (rows 0) m))) (refused 18 0) (plan (used (rows 0) m) (rows 0 m)))) (takeModes rows ts m)
+          → Right ts m (cond b (refused 14 0) (cond (not (allKeep rows 0 ts (used (rows 0) m))) (refused 18 0) (plan (used (rows 0) m) (rows 0 m))))
+          (takeModes rows ts m)
       go true e = inr (none-fits rows ts m l a (eqb-true (rows 0 m) mark e), refl)
       go false e = kept (took-plan rows ts m a (eqb-false (rows 0 m) mark e)) (allKeep rows 0 ts (used (rows 0) m)) refl
 
   -- 14 exactly when no selection fits
   pub take-none : (takeSaid rows ts m ≡ refused 14 0) ↔ NothingFits ts m
-  take-none = (λ e. ⊎-elim (λ x. absurd (told e (x .1))) (λ x. x .0) take-right, λ n. ⊎-elim (λ x. absurd (n _ (x .0 .lawful) (x .0 .fits))) (λ x. x .1) take-right)
+  take-none =
+      (λ e. ⊎-elim (λ x. absurd (told e (x .1))) (λ x. x .0) take-right, λ n. ⊎-elim (λ x. absurd (n _ (x .0 .lawful) (x .0 .fits))) (λ x. x .1) take-right)
     where
       told : {answer : Said} {k u v : ℕ} → answer ≡ refused k 0 → answer ≡ plan u v → ⊥
       told e f = let z : _≡_ {A = ℕ} 0 1 = cc in omega arith

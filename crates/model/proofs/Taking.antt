@@ -4,16 +4,16 @@ use mathlib.Core.Logic.{_⊎_, inl, inr, _≢_}
 use mathlib.Core.Bool.{Bool, true, false, cond}
 use mathlib.Core.List.{List, [], _∷_}
 use Prim.Native.Nat.{ℕ, zero, suc, _+_, _-_, _≤_, _<_}
-use native.Mathlib.Nat.{suc-le-suc-iff, zero-add, add-suc, suc-add, add-zero}
+use native.Mathlib.Nat.{zero-add, add-suc, suc-add, add-zero}
 use native.Mathlib.Omega.{arith}
 use native.Mathlib.Decide.{ℕ-discrete, decLe}
 use native.Mathlib.Numerals.{add-one}
-use lib.Dec.{T, eqb}
+use lib.Dec.{eqb}
 use lib.ListN.{length, drop}
-use borrow.Author.Tests.{eqb-true, eqb-false, eq-eqb}
-use Rattle.model.specs.Plan.{Option, Task, option, Lawful, Fits, Lower, AsGood, IsPlan, NothingFits, Limits, totalCores, totalCost}
+use borrow.Author.Tests.{eqb-true, eqb-false}
+use Rattle.model.specs.Plan.{Task, option, Lawful, Fits, AsGood, IsPlan, NothingFits, Limits, totalCores, totalCost}
 use Rattle.model.specs.Cells.{mark, ceiling, best}
-use Rattle.model.specs.Taking.{keeps, lowest, searchFrom, used, trace, takeModes, Holds}
+use Rattle.model.specs.Taking.{lowest, searchFrom, used, trace, takeModes, Holds}
 use Rattle.model.proofs.Sums.{Sound, within}
 use Rattle.model.proofs.Least.{lowest-cong}
 use Rattle.model.proofs.Best.{best-sound, best-low, best-falls, cost-within}
@@ -34,7 +34,8 @@ searched f c (suc k) = go (f c) refl (searched f (suc c) k)
   where
     go : (b : Bool) → f c ≡ b → Searched f (suc c) k (searchFrom f (suc c) k) → Searched f c (suc k) (cond b c (searchFrom f (suc c) k))
     go true e r = record { from = omega arith; upto = omega arith; before = λ x a b. absurd (omega arith); passes = λ a. e }
-    go false e r = record { from = omega (arith, r .from); upto = omega (arith, r .upto); before = λ x a b. at x a b (ℕ-discrete x c); passes = λ a. r .passes (omega arith) }
+    go false e r =
+        record { from = omega (arith, r .from); upto = omega (arith, r .upto); before = λ x a b. at x a b (ℕ-discrete x c); passes = λ a. r .passes (omega arith) }
       where
         at : (x : ℕ) → c ≤ x → x < searchFrom f (suc c) k → Dec (x ≡ c) → f x ≡ false
         at x a b (yes q) = rw q e
@@ -57,7 +58,8 @@ trace-same rows i [] m c h a = refl
 trace-same rows i (t ∷ ts) m c h a =
     let here : rows i c ≡ best (t ∷ ts) c = rw add-zero at (a 0 c (omega arith) h) in
     let after : (k : ℕ) → k ≤ c → rows (suc i) k ≡ best ts k = λ k q. rw add-one at (a 1 k (omega arith) (omega arith)) in
-    let next : From rows (suc i) ts m = λ k d q w. subst (λ (x : ℕ). rows x d ≡ best (drop k ts) d) (add-suc i k ∙ sym (suc-add i k)) (a (suc k) d (omega arith) w) in
+    let next : From rows (suc i) ts m =
+    λ k d q w. subst (λ (x : ℕ). rows x d ≡ best (drop k ts) d) (add-suc i k ∙ sym (suc-add i k)) (a (suc k) d (omega arith) w) in
     let e : lowest t (rows (suc i)) c (rows i c) ≡ pick t ts c =
     lowest-cong t (rows (suc i)) (best ts) c (rows i c) after ∙ ap (λ (v : ℕ). lowest t (best ts) c v) here in
     ap (λ (j : ℕ). j ∷ trace rows (suc i) ts (c - option t j .need)) e
@@ -95,21 +97,26 @@ pub record Took (ts : List Task) (m : ℕ) (s : List ℕ) (u v : ℕ) : Type 0 w
   pub costs : totalCost ts s ≡ v
 
 -- a selection of the least cost needs no fewer cores than the smallest column of that cost
-tight : (ts : List Task) (m : ℕ) (s : List ℕ) → Lawful ts s → Fits ts m s → totalCost ts s ≡ best ts m → best ts m ≤ ceiling → used (best ts) m ≤ totalCores ts s
+tight : (ts : List Task) (m : ℕ) (s : List ℕ) → Lawful ts s → Fits ts m s → totalCost ts s ≡ best ts m → best ts m ≤ ceiling
+    → used (best ts) m ≤ totalCores ts s
 tight ts m s l f p h =
     let lo = best-low ts s (totalCores ts s) l (omega arith) (omega arith) in
     let up = best-falls ts (totalCores ts s) m f in
     used-least (best ts) m (totalCores ts s) (omega arith)
 
-chosen-best : (ts : List Task) (m : ℕ) (s s' : List ℕ) → best ts m ≤ ceiling → s ≡ chosen ts (used (best ts) m) → totalCost ts s ≡ best ts m → totalCores ts s ≡ used (best ts) m
+chosen-best : (ts : List Task) (m : ℕ) (s s' : List ℕ) → best ts m ≤ ceiling → s ≡ chosen ts (used (best ts) m) → totalCost ts s ≡ best ts m
+    → totalCores ts s ≡ used (best ts) m
     → Lawful ts s' → Fits ts m s' → AsGood ts s s'
-chosen-best ts m s s' h e p u l f = go (within (totalCost ts s')) (ℕ-discrete (totalCost ts s) (totalCost ts s')) (ℕ-discrete (totalCores ts s) (totalCores ts s'))
+chosen-best ts m s s' h e p u l f =
+    go (within (totalCost ts s')) (ℕ-discrete (totalCost ts s) (totalCost ts s')) (ℕ-discrete (totalCores ts s) (totalCores ts s'))
   where
-    go : (totalCost ts s' ≤ ceiling) ⊎ (ceiling < totalCost ts s') → Dec (totalCost ts s ≡ totalCost ts s') → Dec (totalCores ts s ≡ totalCores ts s') → AsGood ts s s'
+    go : (totalCost ts s' ≤ ceiling) ⊎ (ceiling < totalCost ts s') → Dec (totalCost ts s ≡ totalCost ts s') → Dec (totalCores ts s ≡ totalCores ts s')
+        → AsGood ts s s'
     go (inr k) d d' = inl (omega arith)
     go (inl k) (no n) d' = inl (omega (arith, best-low ts s' m l f k))
     go (inl k) (yes q) (no n) = inr (q, inl (omega (arith, tight ts m s' l f (sym q ∙ p) h)))
-    go (inl k) (yes q) (yes r) = inr (q, inr (r, rw e (chosen-lower ts (used (best ts) m) s' (omega (arith, used-same (best ts) m)) l (omega arith) (omega (arith, used-same (best ts) m)))))
+    go (inl k) (yes q) (yes r) =
+        inr (q, inr (r, rw e (chosen-lower ts (used (best ts) m) s' (omega (arith, used-same (best ts) m)) l (omega arith) (omega (arith, used-same (best ts) m)))))
 
 chosen-plan : (ts : List Task) (m : ℕ) → best ts m ≤ ceiling → Took ts m (chosen ts (used (best ts) m)) (used (best ts) m) (best ts m)
 chosen-plan ts m h =

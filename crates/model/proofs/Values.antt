@@ -1,9 +1,8 @@
 -- Cells that are filled from 0 on hold their defined values. Assumes nothing.
-use mathlib.Core.Path.{_≡_, refl, ap, ap₂, sym, _∙_}
-use mathlib.Core.Bool.{true, false}
+use mathlib.Core.Path.{_≡_, refl, ap, ap₂, _∙_}
 use mathlib.Core.List.{List, [], _∷_}
 use Prim.Native.Nat.{ℕ, zero, suc, _+_, _-_, _*_, _/_, _%_, _≤_, _<_}
-use native.Mathlib.Nat.{zero-add, div-lt-iff-lt-mul, div-add-mod', mod-lt, sub-zero}
+use native.Mathlib.Nat.{div-lt-iff-lt-mul, div-add-mod', mod-lt, sub-zero}
 use native.Mathlib.Omega.{arith}
 use native.Mathlib.Decide.{ℕ-discrete}
 use borrow.Author.Tests.{eq-eqb, ne-eqb}
@@ -11,13 +10,13 @@ use lib.ListN.{length, getD, set, drop, length-set}
 use lib.Seq.{getD-set-same, getD-set-other, drop-cons, drop-length}
 use lib.Arith.{digits-div, digits-mod, digits-lt}
 use Rattle.model.specs.Plan.{Task}
-use Rattle.model.specs.Cells.{least, best}
+use Rattle.model.specs.Cells.{best}
 use Rattle.model.specs.Workspace.{cellCount, rowOf, numberOf, cellIn, cellRule, fill, valueOf, Filled, progressAfter, portions}
 use Rattle.model.specs.Taking.{Holds}
 use Rattle.model.proofs.Sums.{reads-sound}
 use Rattle.model.proofs.Least.{least-cong}
 use Rattle.model.proofs.Best.{best-sound}
-use Rattle.model.proofs.Fills.{fill-length, portions-fill, progress-within}
+use Rattle.model.proofs.Fills.{portions-fill, progress-within}
 
 module _ (ts : List Task) (m : ℕ) where
   -- the cell in row i at column c, where the cells up to it hold their values
@@ -54,9 +53,11 @@ module _ (ts : List Task) (m : ℕ) where
   unfolding valueOf cellCount
   rule-value ws p f h =
       rule-at ws p (p / (m + 1)) (p % (m + 1)) f
-      (omega (arith, div-lt-iff-lt-mul {k = m + 1} {x = p} {y = length ts + 1} (omega arith) .1 h)) refl refl (mod-lt p (omega arith)) (div-add-mod' p (m + 1))
+      (omega (arith, div-lt-iff-lt-mul {k = m + 1} {x = p} {y = length ts + 1} (omega arith) .1 h)) refl refl (mod-lt p (omega arith))
+      (div-add-mod' p (m + 1))
 
-  filled-step : (ws : List ℕ) (p : ℕ) → Filled ts m ws p → p < cellCount (length ts) m → p < length ws → Filled ts m (set ws p (cellRule ts m ws p)) (suc p)
+  filled-step : (ws : List ℕ) (p : ℕ) → Filled ts m ws p → p < cellCount (length ts) m → p < length ws
+      → Filled ts m (set ws p (cellRule ts m ws p)) (suc p)
   filled-step ws p f h l q g = go (ℕ-discrete q p)
     where
       go : Dec (q ≡ p) → getD (set ws p (cellRule ts m ws p)) q 0 ≡ valueOf ts m q
@@ -69,7 +70,8 @@ module _ (ts : List Task) (m : ℕ) where
   unfolding fill
   fill-filled ws p zero f h l = λ q g. f q (omega arith)
   fill-filled ws p (suc k) f h l =
-      λ q g. fill-filled (set ws p (cellRule ts m ws p)) (suc p) k (filled-step ws p f (omega arith) (omega arith)) (omega arith) (rw length-set l) q (omega arith)
+      λ q g. fill-filled (set ws p (cellRule ts m ws p)) (suc p) k (filled-step ws p f (omega arith) (omega arith)) (omega arith) (rw length-set l) q
+      (omega arith)
 
   -- after any portions the cells below the progress hold their defined values
   pub portions-filled : (ws : List ℕ) (p : ℕ) (bs : List ℕ) → Filled ts m ws p → p ≤ cellCount (length ts) m → cellCount (length ts) m ≤ length ws
@@ -85,4 +87,5 @@ module _ (ts : List Task) (m : ℕ) where
   pub filled-holds : (ws : List ℕ) → Filled ts m ws (cellCount (length ts) m) → Holds (cellIn (length ts) m ws) ts m
   unfolding cellCount
   filled-holds ws f i c h g =
-      cell-in ws (cellCount (length ts) m) i c f h (omega arith) (digits-lt {q = length ts - i} {m = length ts + 1} {r = c} {c = m + 1} (omega arith) (omega arith))
+      cell-in ws (cellCount (length ts) m) i c f h (omega arith)
+      (digits-lt {q = length ts - i} {m = length ts + 1} {r = c} {c = m + 1} (omega arith) (omega arith))

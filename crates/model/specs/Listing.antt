@@ -3,7 +3,7 @@ use mathlib.Core.Bool.{Bool, true, false, cond, _&&_, _||_}
 use mathlib.Core.List.{List, [], _∷_, _++_, map}
 use Prim.Native.Nat.{ℕ, suc}
 use lib.Dec.{leb, ltb, eqb}
-use Rattle.model.specs.Plan.{Option, Task, totalCores, totalCost}
+use Rattle.model.specs.Plan.{Task, totalCores, totalCost}
 
 -- the numbers of the permitted modes, where the first has number i
 unfoldable pub numbers : ℕ → Task → List ℕ

@@ -2,18 +2,17 @@
 use Prim.Native.Nat.{ℕ, zero, suc, _+_, _*_, _-_, _%_, _≤_, _<_}
 use native.Mathlib.Nat.{eq-or-lt-of-le}
 use native.Mathlib.Omega.{arith}
-use mathlib.Core.Path.{_≡_, refl, sym, ap, subst, _∙_}
-use mathlib.Core.List.{List, [], _∷_, _++_}
-use mathlib.Core.Bool.{Bool, true, false, not, _||_}
-use mathlib.Core.Logic.{_⊎_, ⊎-elim, inl, inr, _↔_}
+use mathlib.Core.Path.{_≡_, sym, subst, _∙_}
+use mathlib.Core.List.{List, [], _∷_}
+use mathlib.Core.Bool.{true, false, not, _||_}
+use mathlib.Core.Logic.{_⊎_, ⊎-elim, _↔_}
 use native.Mathlib.Decide.{decLt}
 use borrow.Author.Tests.{ltb-false, eqb-true, eqb-false, not-false}
 use lib.Dec.{eqb, ltb}
 use lib.ListN.{length}
-use Rattle.answer.specs.Said.{Said}
-use Rattle.answer.specs.Order.{Row, row, first, NoneGiven}
+use Rattle.answer.specs.Order.{row, NoneGiven}
 use Rattle.answer.proofs.Bools.{clash, or-false}
-use Rattle.answer.proofs.Rows.{kind, none-append, none-first, first-none}
+use Rattle.answer.proofs.Rows.{none-append, none-first, first-none}
 use Rattle.answer.proofs.Elses.{passed, answered}
 use Rattle.model.specs.Rules.{meets}
 use Rattle.model.proofs.Rules.{meets-fact}
@@ -80,7 +79,8 @@ task-lawful i at block p =
     let E = inside 1 10 (elasticityIn block) (nine .0) in
     let k = inside 1 16 count (nine .1) in
     let ten = or-false (not (anyAllowed permitted 0 16)) (anyAllowed permitted count (16 - count)) (p .1 .1 .1 .1 .0) in
-    let none : (j : ℕ) → count ≤ j → j < 16 → allows permitted j ≡ false = λ j low high. any-none permitted count (16 - count) (ten .1) j low (omega arith) in
+    let none : (j : ℕ) → count ≤ j → j < 16 → allows permitted j ≡ false =
+    λ j low high. any-none permitted count (16 - count) (ten .1) j low (omega arith) in
     record {
       number = is (taskNumberIn block) i (p .1 .1 .0);
       elasticity-low = E .0;
@@ -108,7 +108,8 @@ unfolding wholeTaskRows
 whole-none H i at block p = none-append (taskRows i at block) (modesRows at H (figuresFrom block 0 (modesIn block))) p
 
 module _ (bytes : List ℕ) where
-  tasks-none : (H left i : ℕ) → NoneGiven (tasksRows bytes H i left) → (k : ℕ) → i ≤ k → k < i + left → NoneGiven (wholeTaskRows H k (k + 1) (taskBlock bytes k))
+  tasks-none : (H left i : ℕ) → NoneGiven (tasksRows bytes H i left) → (k : ℕ) → i ≤ k → k < i + left
+      → NoneGiven (wholeTaskRows H k (k + 1) (taskBlock bytes k))
   unfolding tasksRows
   tasks-none H zero i p k low high = absurd (omega arith)
   tasks-none H (suc left) i p k low high =
@@ -123,12 +124,14 @@ module _ (bytes : List ℕ) where
       let r = none-append (headerRows (headerBlock bytes)) (row 7 0 (otherLength bytes (tasksIn (headerBlock bytes))) ∷ []) (p .1) in
       (r .0, is (length bytes) (512 * (tasksIn (headerBlock bytes) + 1)) (r .1 .0))
 
-  table-none : NoneGiven (tableRows bytes) → NoneGiven (frontRows bytes) × NoneGiven (tasksRows bytes (commonIn (headerBlock bytes)) 0 (tasksIn (headerBlock bytes)))
+  table-none : NoneGiven (tableRows bytes)
+      → NoneGiven (frontRows bytes) × NoneGiven (tasksRows bytes (commonIn (headerBlock bytes)) 0 (tasksIn (headerBlock bytes)))
   unfolding tableRows
   table-none p = none-append (frontRows bytes) (tasksRows bytes (commonIn (headerBlock bytes)) 0 (tasksIn (headerBlock bytes))) p
 
   task-none : NoneGiven (tableRows bytes) → (i : ℕ) → i < tasksIn (headerBlock bytes)
-      → NoneGiven (taskRows i (i + 1) (taskBlock bytes i)) × NoneGiven (modesRows (i + 1) (commonIn (headerBlock bytes)) (figuresFrom (taskBlock bytes i) 0 (modesIn (taskBlock bytes i))))
+      → NoneGiven (taskRows i (i + 1) (taskBlock bytes i)) × NoneGiven
+      (modesRows (i + 1) (commonIn (headerBlock bytes)) (figuresFrom (taskBlock bytes i) 0 (modesIn (taskBlock bytes i))))
   task-none p i h =
       whole-none (commonIn (headerBlock bytes)) i (i + 1) (taskBlock bytes i)
       (tasks-none (commonIn (headerBlock bytes)) (tasksIn (headerBlock bytes)) 0 (table-none p .1) i (omega arith) (omega arith))

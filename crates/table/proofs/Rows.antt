@@ -2,8 +2,8 @@
 use Prim.Native.Nat.{ℕ, suc, _+_, _-_, _≤_, _<_}
 use native.Mathlib.Omega.{arith}
 use mathlib.Core.Path.{_≡_, ap, _∙_}
-use mathlib.Core.Bool.{Bool, cond}
-use mathlib.Core.List.{List, [], _∷_, _++_}
+use mathlib.Core.Bool.{cond}
+use mathlib.Core.List.{List, [], _∷_}
 use lib.Dec.{leb}
 use Rattle.answer.specs.Said.{Said, refused}
 use Rattle.answer.specs.Order.{row, first}
@@ -22,7 +22,8 @@ module _ (bytes : List ℕ) where
   -- the length, the header, the length again
   pub front-first : (s : Said)
       → first (frontRows bytes) s
-      ≡ cond (wrongLength bytes) (refused 1 0) (first (headerRows (headerBlock bytes)) (cond (otherLength bytes (tasksIn (headerBlock bytes))) (refused 7 0) s))
+      ≡ cond (wrongLength bytes) (refused 1 0)
+      (first (headerRows (headerBlock bytes)) (cond (otherLength bytes (tasksIn (headerBlock bytes))) (refused 7 0) s))
   unfolding frontRows
   front-first s =
       ap (cond (wrongLength bytes) (refused 1 0))

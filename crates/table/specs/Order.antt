@@ -9,7 +9,7 @@ use Rattle.answer.specs.Said.{Said, header, task, figures}
 use Rattle.answer.specs.Order.{Row, row, first}
 use Rattle.block.specs.Bytes.{checkOf}
 use Rattle.block.specs.Layout.{kindIn, checkIn, editionIn, tasksIn, coresIn, commonIn, headerUnused, elasticityIn, modesIn, permittedIn, taskNumberIn, taskUnused, Figures, figuresIn, figuresFrom}
-use Rattle.block.specs.Tests.{wrongLimits, wrongShape, wrongPermitted, figureRows, modesRows}
+use Rattle.block.specs.Tests.{wrongLimits, wrongShape, wrongPermitted, modesRows}
 
 -- block k of the bytes: blocks of 512 bytes, counted from 0
 unfoldable pub blockAt : ℕ → List ℕ → List ℕ

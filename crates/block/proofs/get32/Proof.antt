@@ -58,7 +58,8 @@ add-result-3 c = search needs
 
 returns : tie.Need-returns
 returns c =
-    rw (c .before .before .before .get8 .ensures, c .before .before .get82 .ensures, c .before .get83 .ensures, c .get84 .ensures) (sym (number-four _ _))
+    rw (c .before .before .before .get8 .ensures, c .before .before .get82 .ensures, c .before .get83 .ensures, c .get84 .ensures)
+    (sym (number-four _ _))
 
 pub get32-spec : {M : Type 1} → statement M
 get32-spec =

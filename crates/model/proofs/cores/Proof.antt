@@ -28,7 +28,9 @@ returns-2 c =
     let a = c .before .before .before .args in
     cores-one (a .work) (a .span) (a .period) (meeting (c .before)) (c .if2 .taken)
 
-above : (c : tie.Else2) → (c .before .before .before .args .span < c .before .before .before .args .period) × (c .before .before .before .args .span < c .before .before .before .args .work)
+above : (c : tie.Else2)
+    → (c .before .before .before .args .span < c .before .before .before .args .period) ×
+    (c .before .before .before .args .span < c .before .before .before .args .work)
 above c =
     let a = c .before .before .before .args in
     meets-more (a .work) (a .span) (a .period) (meeting (c .before)) (c .if2 .left)

@@ -27,7 +27,8 @@ returns : tie.Need-returns
 returns c =
     let a = c .before .before .before .args in
     let r = c .before .ask-task in
-    stopped reading (0 ∷ 1 ∷ 3 ∷ []) (r .result) (askTaskRows (a .table .now) (a .task)) (taskSaid (taskBlock (a .table .now) (a .task))) _ tt (c .match .keys2) (r .ensures)
+    stopped reading (0 ∷ 1 ∷ 3 ∷ []) (r .result) (askTaskRows (a .table .now) (a .task)) (taskSaid (taskBlock (a .table .now) (a .task))) _ tt
+    (c .match .keys2) (r .ensures)
     ∙ sym (ask-mode-first (a .table .now) (a .task) (a .mode) _)
 
 -- past the rows before 19
@@ -38,10 +39,13 @@ past c s =
     let a = c .before .before .before .before .before .args in
     let r = c .before .before .before .ask-task in
     let key = c .before .before .match .keys1 in
-    let same = sym (ap said (c .before .got .given .1)) ∙ answered reading (2 ∷ []) (r .result) (askTaskRows (a .table .now) (a .task)) (taskSaid (taskBlock (a .table .now) (a .task))) tt key (r .ensures) in
+    let same = sym (ap said (c .before .got .given .1))
+    ∙ answered reading (2 ∷ []) (r .result) (askTaskRows (a .table .now) (a .task)) (taskSaid (taskBlock (a .table .now) (a .task))) tt key
+    (r .ensures) in
     let n : modesIn (taskBlock (a .table .now) (a .task)) ≡ c .before .got .given .0 .1 .0 = cc in
     ask-mode-first (a .table .now) (a .task) (a .mode) s
-    ∙ went-on reading (2 ∷ []) (r .result) (askTaskRows (a .table .now) (a .task)) (taskSaid (taskBlock (a .table .now) (a .task))) tt key (r .ensures) _
+    ∙ went-on reading (2 ∷ []) (r .result) (askTaskRows (a .table .now) (a .task)) (taskSaid (taskBlock (a .table .now) (a .task))) tt key
+    (r .ensures) _
     ∙ ap (λ (k : ℕ). cond (leb k (a .mode)) (refused 19 0) s) n
 
 cast-if1 : tie.Need-cast-if1
@@ -65,7 +69,9 @@ mode-figures-requires c κs = search needs
 
 returns-3 : tie.Need-returns-3
 returns-3 c =
-    c .mode-figures .ensures ∙ ap (λ (b : List ℕ). figuresSaid (figuresIn b (c .before .before .before .before .before .before .before .before .args .mode))) (c .before .task-block .ensures) ∙ sym (past (c .before .before .before) _ ∙ rw (lt-leb _ _ (c .before .before .if1 .left)))
+    c .mode-figures .ensures
+    ∙ ap (λ (b : List ℕ). figuresSaid (figuresIn b (c .before .before .before .before .before .before .before .before .args .mode)))
+    (c .before .task-block .ensures) ∙ sym (past (c .before .before .before) _ ∙ rw (lt-leb _ _ (c .before .before .if1 .left)))
 
 pub ask-mode-spec : {M : Type 1} → statement M
 ask-mode-spec =

@@ -2,7 +2,7 @@
 use Prim.Native.Nat.{ℕ}
 use mathlib.Core.Path.{_≡_, sym, ap, _∙_}
 use mathlib.Core.Bool.{cond}
-use mathlib.Core.List.{List, [], _∷_}
+use mathlib.Core.List.{[], _∷_}
 use borrow.Author.Tests.{le-leb, lt-leb}
 use lib.Dec.{leb}
 use Rattle.answer.specs.Said.{Said, refused}
@@ -27,7 +27,8 @@ returns : tie.Need-returns
 returns c =
     let a = c .before .before .before .args in
     let r = c .before .check in
-    stopped reading (0 ∷ 2 ∷ 3 ∷ []) (r .result) (tableRows (a .table .now)) (headerSaid (headerBlock (a .table .now))) _ tt (c .match .keys2) (r .ensures)
+    stopped reading (0 ∷ 2 ∷ 3 ∷ []) (r .result) (tableRows (a .table .now)) (headerSaid (headerBlock (a .table .now))) _ tt (c .match .keys2)
+    (r .ensures)
     ∙ sym (ask-task-first (a .table .now) (a .task) _)
 
 -- past the rows before 19
@@ -38,7 +39,8 @@ past c s =
     let a = c .before .before .before .before .before .args in
     let r = c .before .before .before .check in
     let key = c .before .before .match .keys1 in
-    let same = sym (ap said (c .before .got .given .1)) ∙ answered reading (1 ∷ []) (r .result) (tableRows (a .table .now)) (headerSaid (headerBlock (a .table .now))) tt key (r .ensures) in
+    let same = sym (ap said (c .before .got .given .1))
+    ∙ answered reading (1 ∷ []) (r .result) (tableRows (a .table .now)) (headerSaid (headerBlock (a .table .now))) tt key (r .ensures) in
     let n : tasksIn (headerBlock (a .table .now)) ≡ c .before .got .given .0 .0 = cc in
     ask-task-first (a .table .now) (a .task) s
     ∙ went-on reading (1 ∷ []) (r .result) (tableRows (a .table .now)) (headerSaid (headerBlock (a .table .now))) tt key (r .ensures) _
@@ -62,7 +64,8 @@ task-numbers-requires c κs = search needs
 
 returns-3 : tie.Need-returns-3
 returns-3 c =
-    c .task-numbers .ensures ∙ ap taskSaid (c .before .task-block .ensures) ∙ sym (past (c .before .before .before) _ ∙ rw (lt-leb _ _ (c .before .before .if1 .left)))
+    c .task-numbers .ensures ∙ ap taskSaid (c .before .task-block .ensures)
+    ∙ sym (past (c .before .before .before) _ ∙ rw (lt-leb _ _ (c .before .before .if1 .left)))
 
 pub ask-task-spec : {M : Type 1} → statement M
 ask-task-spec =

@@ -67,10 +67,13 @@ check-task-requires c κs = search needs
 checked : (c : tie.After-check-task Inv-loop μ-loop)
     → let i = c .before .before .before .loop .i in
     let block = taskBlock (c .before .before .before .before .before .before .before .before .before .args .table .now) i in
-    said (c .check-task .result) ≡ first (wholeTaskRows (c .before .before .before .before .before .got .given .0 .1 .1 .0) i (i + 1) block) (taskSaid block)
+    said (c .check-task .result) ≡ first (wholeTaskRows (c .before .before .before .before .before .got .given .0 .1 .1 .0) i (i + 1) block)
+    (taskSaid block)
 checked c =
     let i = c .before .before .before .loop .i in
-    c .check-task .ensures ∙ ap (λ (b : List ℕ). first (wholeTaskRows (c .before .before .before .before .before .got .given .0 .1 .1 .0) i (i + 1) b) (taskSaid b)) (c .before .task-block .ensures)
+    c .check-task .ensures
+    ∙ ap (λ (b : List ℕ). first (wholeTaskRows (c .before .before .before .before .before .got .given .0 .1 .1 .0) i (i + 1) b) (taskSaid b))
+    (c .before .task-block .ensures)
 
 enum-told : tie.Need-enum-told Inv-loop μ-loop
 enum-told c = search needs
@@ -81,7 +84,8 @@ returns-2 c =
     let l = c .before .before .before .before .loop in
     let H = c .before .before .before .before .before .before .got .given .0 .1 .1 .0 in
     let block = taskBlock bytes (l .i) in
-    stopped reading (0 ∷ 1 ∷ 3 ∷ []) (c .before .check-task .result) (wholeTaskRows H (l .i) (l .i + 1) block) (taskSaid block) _ tt (c .match2 .keys2) (checked (c .before))
+    stopped reading (0 ∷ 1 ∷ 3 ∷ []) (c .before .check-task .result) (wholeTaskRows H (l .i) (l .i + 1) block) (taskSaid block) _ tt
+    (c .match2 .keys2) (checked (c .before))
     ∙ sym (tasks-more bytes H (l .i) _ (headerSaid (headerBlock bytes)) (c .before .before .before .loop-test .taken))
     ∙ sym (l .inv .1)
 
@@ -99,7 +103,8 @@ loop-again c =
     let block = taskBlock bytes (l .i) in (
       l .inv .0,
       l .inv .1 ∙ tasks-more bytes H (l .i) _ (headerSaid (headerBlock bytes)) (c .before .before .before .before .loop-test .taken)
-          ∙ went-on reading (2 ∷ []) (c .before .before .check-task .result) (wholeTaskRows H (l .i) (l .i + 1) block) (taskSaid block) tt (c .before .match2 .keys1) (checked (c .before .before)) _,
+          ∙ went-on reading (2 ∷ []) (c .before .before .check-task .result) (wholeTaskRows H (l .i) (l .i + 1) block) (taskSaid block) tt
+          (c .before .match2 .keys1) (checked (c .before .before)) _,
     )
 
 returns-3 : tie.Need-returns-3 Inv-loop μ-loop

@@ -55,7 +55,8 @@ returns-2 : tie.Need-returns-2
 returns-2 c =
     let block = headerBlock (c .before .before .before .before .before .before .args .table .now) in
     let r = c .before .read-header in
-    stopped reading (0 ∷ 2 ∷ 3 ∷ []) (r .result) (headerRows block) (headerSaid block) _ tt (c .match .keys2) (header (c .before)) ∙ sym (front (c .before .before .before))
+    stopped reading (0 ∷ 2 ∷ 3 ∷ []) (r .result) (headerRows block) (headerSaid block) _ tt (c .match .keys2) (header (c .before))
+    ∙ sym (front (c .before .before .before))
 
 -- past the header's rows
 past : (c : tie.After-known-told)
@@ -65,17 +66,21 @@ past : (c : tie.After-known-told)
 past c =
     let block = headerBlock (c .before .before .before .before .before .before .before .before .args .table .now) in
     let r = c .before .before .before .read-header in
-    front (c .before .before .before .before .before) ∙ went-on reading (1 ∷ []) (r .result) (headerRows block) (headerSaid block) tt (c .before .before .match .keys1) (header (c .before .before .before)) _
+    front (c .before .before .before .before .before)
+    ∙ went-on reading (1 ∷ []) (r .result) (headerRows block) (headerSaid block) tt (c .before .before .match .keys1)
+    (header (c .before .before .before)) _
 
 -- and the pattern binds the header's own numbers
 same : (c : tie.After-known-told)
     → let g = c .before .got .given .0 in
-    told.header (g .0) (g .1 .0) (g .1 .1 .0) ≡ headerSaid (headerBlock (c .before .before .before .before .before .before .before .before .args .table .now))
+    told.header (g .0) (g .1 .0) (g .1 .1 .0) ≡ headerSaid
+    (headerBlock (c .before .before .before .before .before .before .before .before .args .table .now))
 same c =
     let block = headerBlock (c .before .before .before .before .before .before .before .before .args .table .now) in
     let r = c .before .before .before .read-header in
     sym (ap said (c .before .got .given .1))
-    ∙ answered reading (1 ∷ []) (r .result) (headerRows block) (headerSaid block) tt (c .before .before .match .keys1) (header (c .before .before .before))
+    ∙ answered reading (1 ∷ []) (r .result) (headerRows block) (headerSaid block) tt (c .before .before .match .keys1)
+    (header (c .before .before .before))
 
 other-length-requires : tie.Need-other-length-requires
 other-length-requires c κs = search needs
@@ -85,7 +90,8 @@ lengths : (c : tie.After-other-length)
     c .other-length .result ≡ otherLength bytes (tasksIn (headerBlock bytes))
 lengths c =
     let s = same (c .before) in
-    let n : c .before .before .got .given .0 .0 ≡ tasksIn (headerBlock (c .before .before .before .before .before .before .before .before .before .args .table .now)) = cc in
+    let n : c .before .before .got .given .0 .0 ≡ tasksIn
+    (headerBlock (c .before .before .before .before .before .before .before .before .before .args .table .now)) = cc in
     c .other-length .ensures ∙ simp n
 
 refuse-requires-2 : tie.Need-refuse-requires-2

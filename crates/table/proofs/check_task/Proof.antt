@@ -67,7 +67,8 @@ returns-2 c =
     let S = taskSaid block in
     let j = c .before .before .before .loop .j in
     let r = c .before .read-mode in
-    stopped reading (0 ∷ 1 ∷ 2 ∷ []) (r .result) (figureRows (a .at) (a .common) (figuresIn block j)) (figuresSaid (figuresIn block j)) _ tt (c .match2 .keys2) (r .ensures)
+    stopped reading (0 ∷ 1 ∷ 2 ∷ []) (r .result) (figureRows (a .at) (a .common) (figuresIn block j)) (figuresSaid (figuresIn block j)) _ tt
+    (c .match2 .keys2) (r .ensures)
     ∙ sym (modes-more block (a .at) (a .common) j _ S (c .before .before .loop-test .taken))
     ∙ sym (c .before .before .before .loop .inv .1)
 
@@ -86,7 +87,8 @@ loop-again c =
     let r = c .before .before .read-mode in (
       l .inv .0,
       l .inv .1 ∙ modes-more block (a .at) (a .common) (l .j) _ S (c .before .before .before .loop-test .taken)
-          ∙ went-on reading (3 ∷ []) (r .result) (figureRows (a .at) (a .common) (figuresIn block (l .j))) (figuresSaid (figuresIn block (l .j))) tt (c .before .match2 .keys1) (r .ensures) _,
+          ∙ went-on reading (3 ∷ []) (r .result) (figureRows (a .at) (a .common) (figuresIn block (l .j))) (figuresSaid (figuresIn block (l .j))) tt
+          (c .before .match2 .keys1) (r .ensures) _,
     )
 
 returns-3 : tie.Need-returns-3 Inv-loop μ-loop

@@ -1,5 +1,5 @@
 -- `table::read_header` meets its contract. Each test that is not given leaves the rows behind it. Assumes nothing.
-use mathlib.Core.Path.{_≡_, sym, ap, _∙_}
+use mathlib.Core.Path.{_≡_, sym, _∙_}
 use Prim.Native.Nat.{ℕ}
 use lib.ListN.{drop}
 use Rattle.answer.specs.Order.{first}
@@ -45,7 +45,8 @@ on1 : (c : tie.Else1) → Went (c .before .before .before .before .before .befor
 on1 c = rw (found (c .before .wrong-check .ensures) (c .if1 .left))
 
 returns-2 : tie.Need-returns-2
-returns-2 c = c .refuse2 .ensures ∙ sym (on1 (c .before .before .before) ∙ rw (found (c .before .before .other-byte .ensures) (c .before .if2 .taken)))
+returns-2 c = c .refuse2 .ensures
+    ∙ sym (on1 (c .before .before .before) ∙ rw (found (c .before .before .other-byte .ensures) (c .before .if2 .taken)))
 
 other-byte-requires-2 : tie.Need-other-byte-requires-2
 other-byte-requires-2 c κs = search needs
@@ -57,7 +58,8 @@ on2 : (c : tie.Else2) → Went (c .before .before .before .before .before .befor
 on2 c = on1 (c .before .before) ∙ rw (found (c .before .other-byte .ensures) (c .if2 .left))
 
 returns-3 : tie.Need-returns-3
-returns-3 c = c .refuse3 .ensures ∙ sym (on2 (c .before .before .before) ∙ rw (found (c .before .before .other-byte2 .ensures) (c .before .if3 .taken)))
+returns-3 c = c .refuse3 .ensures
+    ∙ sym (on2 (c .before .before .before) ∙ rw (found (c .before .before .other-byte2 .ensures) (c .before .if3 .taken)))
 
 wrong-limits-requires : tie.Need-wrong-limits-requires
 wrong-limits-requires c κs = search needs
@@ -66,7 +68,9 @@ wrong-limits-requires c κs = search needs
 limits : (c : tie.After-wrong-limits)
     → let block = c .before .before .before .before .before .before .before .before .before .before .before .args .block .now in
     c .wrong-limits .result ≡ wrongLimits (tasksIn block) (coresIn block) (commonIn block)
-limits c = c .wrong-limits .ensures ∙ simp (c .before .before .before .before .before .before .before .before .before .get16 .ensures, c .before .before .before .before .before .before .before .before .get162 .ensures, c .before .before .before .before .before .before .before .get32 .ensures)
+limits c =
+    let d = c .before .before .before .before .before .before .before in
+    c .wrong-limits .ensures ∙ simp (d .before .before .get16 .ensures, d .before .get162 .ensures, d .get32 .ensures)
 
 refuse-requires-4 : tie.Need-refuse-requires-4
 refuse-requires-4 c κs = search needs
@@ -87,7 +91,8 @@ on4 : (c : tie.Else4) → Went (c .before .before .before .before .before .befor
 on4 c = on3 (c .before .before) ∙ rw (found (limits (c .before)) (c .if4 .left))
 
 returns-5 : tie.Need-returns-5
-returns-5 c = c .refuse5 .ensures ∙ sym (on4 (c .before .before .before) ∙ rw (found (c .before .before .header-unused .ensures) (c .before .if5 .taken)))
+returns-5 c = c .refuse5 .ensures
+    ∙ sym (on4 (c .before .before .before) ∙ rw (found (c .before .before .header-unused .ensures) (c .before .if5 .taken)))
 
 on5 : (c : tie.Else5) → Went (c .before .before .before .before .before .before .before .before .before .before .before .before .before .before) 5
 on5 c = on4 (c .before .before) ∙ rw (found (c .before .header-unused .ensures) (c .if5 .left))

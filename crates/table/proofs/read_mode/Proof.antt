@@ -1,7 +1,7 @@
 -- `table::read_mode` meets its contract. The plain figures are never refused. Assumes nothing.
 use mathlib.Core.Path.{_≡_, sym, ap, _∙_}
 use mathlib.Core.List.{[], _∷_}
-use Rattle.answer.proofs.Elses.{stopped, answered}
+use Rattle.answer.proofs.Elses.{stopped}
 use Rattle.block.specs.Layout.{figuresIn}
 use Rattle.table.specs.Said.{said}
 use Rattle.table.specs.Order.{figuresSaid}
@@ -19,14 +19,16 @@ enum-known-got c = search needs
 returns : tie.Need-returns
 returns c =
     let a = c .before .before .before .args in
-    stopped reading (0 ∷ 1 ∷ 2 ∷ []) (c .before .mode-figures .result) [] (figuresSaid (figuresIn (a .block .now) (a .mode))) _ tt (c .match .keys2) (c .before .mode-figures .ensures)
+    stopped reading (0 ∷ 1 ∷ 2 ∷ []) (c .before .mode-figures .result) [] (figuresSaid (figuresIn (a .block .now) (a .mode))) _ tt (c .match .keys2)
+    (c .before .mode-figures .ensures)
 
 test-figures-requires : tie.Need-test-figures-requires
 test-figures-requires c κs = search needs
 
 returns-2 : tie.Need-returns-2
 returns-2 c =
-    let f = figuresIn (c .before .before .before .before .before .before .args .block .now) (c .before .before .before .before .before .before .args .mode) in
+    let f = figuresIn (c .before .before .before .before .before .before .args .block .now)
+    (c .before .before .before .before .before .before .args .mode) in
     let g = c .before .before .got .given in
     let same = sym (ap said (g .1)) ∙ c .before .before .before .before .mode-figures .ensures in
     let C : g .0 .0 ≡ f .work = cc in

@@ -32,7 +32,8 @@ enum-known-got c = search needs
 returns : tie.Need-returns
 returns c =
     let a = c .before .before .before .args in
-    stopped reading (0 ∷ 1 ∷ 3 ∷ []) (c .before .task-numbers .result) [] (taskSaid (a .block .now)) _ tt (c .match .keys2) (c .before .task-numbers .ensures)
+    stopped reading (0 ∷ 1 ∷ 3 ∷ []) (c .before .task-numbers .result) [] (taskSaid (a .block .now)) _ tt (c .match .keys2)
+    (c .before .task-numbers .ensures)
 
 -- the pattern binds the block's own numbers
 same : (c : tie.After-known-told)
@@ -59,7 +60,8 @@ on1 : (c : tie.Else1) → Went (c .before .before .before .before .before .befor
 on1 c = rw (found (c .before .wrong-check .ensures) (c .if1 .left))
 
 returns-3 : tie.Need-returns-3
-returns-3 c = c .refuse2 .ensures ∙ sym (on1 (c .before .before .before) ∙ rw (found (c .before .before .other-byte .ensures) (c .before .if2 .taken)))
+returns-3 c = c .refuse2 .ensures
+    ∙ sym (on1 (c .before .before .before) ∙ rw (found (c .before .before .other-byte .ensures) (c .before .if2 .taken)))
 
 other-number-requires : tie.Need-other-number-requires
 other-number-requires c κs = search needs
@@ -71,7 +73,8 @@ on2 : (c : tie.Else2) → Went (c .before .before .before .before .before .befor
 on2 c = on1 (c .before .before) ∙ rw (found (c .before .other-byte .ensures) (c .if2 .left))
 
 returns-4 : tie.Need-returns-4
-returns-4 c = c .refuse3 .ensures ∙ sym (on2 (c .before .before .before) ∙ rw (found (c .before .before .other-number .ensures) (c .before .if3 .taken)))
+returns-4 c = c .refuse3 .ensures
+    ∙ sym (on2 (c .before .before .before) ∙ rw (found (c .before .before .other-number .ensures) (c .before .if3 .taken)))
 
 wrong-shape-requires : tie.Need-wrong-shape-requires
 wrong-shape-requires c κs = search needs
@@ -100,7 +103,8 @@ wrong-permitted-requires : tie.Need-wrong-permitted-requires
 wrong-permitted-requires c κs = search needs
 
 modes : (c : tie.After-wrong-permitted)
-    → let block = c .before .before .before .before .before .before .before .before .before .before .before .before .before .before .args .block .now in
+    → let block =
+    c .before .before .before .before .before .before .before .before .before .before .before .before .before .before .args .block .now in
     c .wrong-permitted .result ≡ wrongPermitted (permittedIn block) (modesIn block)
 modes c =
     let block = c .before .before .before .before .before .before .before .before .before .before .before .before .before .before .args .block .now in
@@ -125,13 +129,16 @@ task-unused-requires c κs = search needs
 refuse-requires-6 : tie.Need-refuse-requires-6
 refuse-requires-6 c κs = search needs
 
-on5 : (c : tie.Else5) → Went (c .before .before .before .before .before .before .before .before .before .before .before .before .before .before .before) 5
+on5 : (c : tie.Else5)
+    → Went (c .before .before .before .before .before .before .before .before .before .before .before .before .before .before .before) 5
 on5 c = on4 (c .before .before) ∙ rw (found (modes (c .before)) (c .if5 .left))
 
 returns-7 : tie.Need-returns-7
-returns-7 c = c .refuse6 .ensures ∙ sym (on5 (c .before .before .before) ∙ rw (found (c .before .before .task-unused .ensures) (c .before .if6 .taken)))
+returns-7 c = c .refuse6 .ensures
+    ∙ sym (on5 (c .before .before .before) ∙ rw (found (c .before .before .task-unused .ensures) (c .before .if6 .taken)))
 
-on6 : (c : tie.Else6) → Went (c .before .before .before .before .before .before .before .before .before .before .before .before .before .before .before .before .before) 6
+on6 : (c : tie.Else6)
+    → Went (c .before .before .before .before .before .before .before .before .before .before .before .before .before .before .before .before .before) 6
 on6 c = on5 (c .before .before) ∙ rw (found (c .before .task-unused .ensures) (c .if6 .left))
 
 returns-8 : tie.Need-returns-8

@@ -38,7 +38,8 @@ on1 : (c : tie.Else1) → Went (c .before .before) 1
 on1 c = rw (found (c .before .wrong-period .ensures) (c .if1 .left))
 
 returns-2 : tie.Need-returns-2
-returns-2 c = c .refuse2 .ensures ∙ sym (on1 (c .before .before .before) ∙ rw (found (c .before .before .wrong-work .ensures) (c .before .if2 .taken)))
+returns-2 c = c .refuse2 .ensures
+    ∙ sym (on1 (c .before .before .before) ∙ rw (found (c .before .before .wrong-work .ensures) (c .before .if2 .taken)))
 
 meets-period-requires : tie.Need-meets-period-requires
 meets-period-requires c κs = search needs
@@ -50,7 +51,8 @@ on2 : (c : tie.Else2) → Went (c .before .before .before .before) 2
 on2 c = on1 (c .before .before) ∙ rw (found (c .before .wrong-work .ensures) (c .if2 .left))
 
 returns-3 : tie.Need-returns-3
-returns-3 c = c .refuse3 .ensures ∙ sym (on2 (c .before .before .before) ∙ rw (found (ap not (c .before .before .meets-period .ensures)) (c .before .if3 .taken)))
+returns-3 c = c .refuse3 .ensures
+    ∙ sym (on2 (c .before .before .before) ∙ rw (found (ap not (c .before .before .meets-period .ensures)) (c .before .if3 .taken)))
 
 on3 : (c : tie.Else3) → Went (c .before .before .before .before .before .before) 3
 on3 c = on2 (c .before .before) ∙ rw (found (ap not (c .before .meets-period .ensures)) (c .if3 .left))
