@@ -1,6 +1,6 @@
 -- The check: one more byte, how large it is, and that it changes when one of its bytes changes and when two unequal ones trade places.
 -- Assumes nothing.
-use Prim.Native.Nat.{ℕ, zero, suc, _+_, _*_, _≤_, _<_}
+use Prim.Native.Nat.{ℕ, zero, suc, _+_, _-_, _*_, _≤_, _<_}
 use native.Mathlib.Nat.{add-mul, eq-of-mul-eq-mul-left, eq-or-lt-of-le, le-of-suc-le-suc, mul-le-mul, mul-le-mul-left}
 use native.Mathlib.Numerals.{add-one}
 use native.Mathlib.Omega.{arith}
@@ -79,20 +79,20 @@ check-changes s o v p q same =
     let w = weighed-set s o v 508 p q in
     eq-of-mul-eq-mul-left (o + 1) (omega arith) v (getD s o 0) (omega arith)
 
--- ---- two bytes traded, the second d further on
+-- ---- two bytes traded
 abbrev pub traded : List ℕ → ℕ → ℕ → List ℕ
 traded s o e = set (set s o (getD s e 0)) e (getD s o 0)
 
+-- the weight of the second, d further on
 split : (o d x : ℕ) → (o + d + 1) * x ≡ (o + 1) * x + d * x
 split o d x =
     let e : o + d + 1 ≡ o + 1 + d = omega arith in
     ap (λ (n : ℕ). n * x) e ∙ add-mul (o + 1) d x
 
--- the check is the same only where the two bytes are the same
-pub check-trades : (s : List ℕ) (o d : ℕ) → o + d < length s → o + d < 508 → 0 < d
+further-on : (s : List ℕ) (o d : ℕ) → 0 < d → o + d < length s → o + d < 508
     → checkOf (traded s o (o + d)) ≡ checkOf s → getD s o 0 ≡ getD s (o + d) 0
 unfolding checkOf
-check-trades s o d p q pos same =
+further-on s o d pos p q same =
     let x = getD s o 0 in
     let y = getD s (o + d) 0 in
     let one = set s o y in
@@ -101,3 +101,9 @@ check-trades s o d p q pos same =
     let w2 = weighed-set one (o + d) x 508 (rw (length-set s o y) p) q in
     let k : (o + d + 1) * getD one (o + d) 0 ≡ (o + d + 1) * y = ap (λ (b : ℕ). (o + d + 1) * b) kept in
     eq-of-mul-eq-mul-left d pos x y (omega (arith, split o d x, split o d y))
+
+-- the check is the same only where the two bytes are the same
+pub check-trades : (s : List ℕ) (o e : ℕ) → o < e → e < length s → e < 508 → checkOf (traded s o e) ≡ checkOf s → getD s o 0 ≡ getD s e 0
+check-trades s o e h p q =
+    let d : o + (e - o) ≡ e = omega arith in
+    rw d at (further-on s o (e - o) (omega arith) (omega arith) (omega arith))

@@ -22,7 +22,7 @@ moreCores C L T = ltb L T && ltb L C
 abbrev pub meets : ℕ → ℕ → ℕ → Bool
 meets C L T = oneCore C L T || moreCores C L T
 
--- the cores of a mode that meets its period
+-- the cores of a mode that meets its period: 1, or (C - L) / (T - L), rounded up
 abbrev pub coresOf : ℕ → ℕ → ℕ → ℕ
 coresOf C L T = cond (oneCore C L T) 1 (roundedUp (C - L) (T - L))
 

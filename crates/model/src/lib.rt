@@ -17,7 +17,7 @@ pub fn meets_period(work: u32, span: u32, period: u32) -> bool
     ((work == span) & (span <= period)) | ((span < period) & (span < work))
 }
 
-// The quotient, rounded up: (a + (b - 1)) / b, which here can't pass 32 bits.
+// a / b, rounded up, with no sum that could pass 32 bits.
 fn rounded_up(a: u32, b: u32) -> u32
     requires { ⌜ (0 < a) × (0 < b) ⌝ }
     ensures { λ r. ⌜ r ≡ roundedUp a b ⌝ }

@@ -3,3 +3,4 @@ pub mod Blocks
 pub mod Rows
 pub mod Accepted
 pub mod Settled
+pub mod Zero

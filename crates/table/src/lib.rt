@@ -1,7 +1,6 @@
 // Reading a table: its checks in the document's order, and its numbers.
 ghost use mathlib.Core.Path.{_≡_};
 ghost use mathlib.Core.Bool.{not};
-ghost use Prim.Native.Nat.{_+_, _*_};
 ghost use lib.Dec.{eqb};
 ghost use lib.ListN.{take, drop};
 ghost use Rattle.answer.specs.Said.{refused, figures};
