@@ -55,7 +55,7 @@ fn difference(a: u64, b: u64) -> u64
 }
 
 // The cost of a mode, by its demand and that of mode 0, neither of them above 64 times the largest common period.
-pub fn cost(elasticity: u32, nominal: u64, demand: u64) -> u64
+pub fn cost(elasticity: u8, nominal: u64, demand: u64) -> u64
     requires { ⌜ (nominal ≤ 6400000) × (demand ≤ 6400000) ⌝ }
     ensures { λ r. ⌜ r ≡ costOf elasticity nominal demand ⌝ }
 {
@@ -63,5 +63,5 @@ pub fn cost(elasticity: u32, nominal: u64, demand: u64) -> u64
         return 0;
     }
     let d = difference(nominal, demand);
-    ((2520 / elasticity) as u64) * (d * d)
+    2520 / (elasticity as u64) * (d * d)
 }

@@ -1,6 +1,6 @@
 -- `model::cost` meets its contract. Assumes nothing.
 use borrow.Author.Needs.{needs}
-use native.Mathlib.Nat.{zero-mul, div-le-self}
+use native.Mathlib.Nat.{zero-mul}
 use native.Mathlib.Omega.{arith}
 use Rattle.model.proofs.Bounds.{square-most, cost-most}
 use Rattle.model.proofs.cost.Statement.{statement}
@@ -15,9 +15,6 @@ difference-requires c κs = search needs
 div-result : tie.Need-div-result
 div-result c = search needs
 
-cast-result : tie.Need-cast-result
-cast-result c = omega (arith, div-le-self 2520 (c .before .before .args .elasticity))
-
 mul-result : tie.Need-mul-result
 mul-result c = omega (arith, square-most 6400000 (c .difference .result) (omega arith))
 
@@ -30,6 +27,4 @@ returns-2 : tie.Need-returns-2
 returns-2 c = simp (c .difference .ensures)
 
 pub cost-spec : {M : Type 1} → statement M
-cost-spec =
-    tie.close
-    (tie.spec returns difference-requires div-result cast-result mul-result mul-result-2 returns-2)
+cost-spec = tie.close (tie.spec returns difference-requires div-result mul-result mul-result-2 returns-2)
