@@ -21,7 +21,6 @@ unfolding best totalCores totalCost onward
 best-low [] s c l f p = omega arith
 best-low (t ∷ ts) [] c l f p = absurd l
 best-low (t ∷ ts) (j ∷ s) c l f p =
-    let n : ℕ = option t j .need in
     let ih : best ts (c - option t j .need) ≤ totalCost ts s = best-low ts s (c - option t j .need) (l .2) (omega arith) (omega arith) in
     let lo = least-low t (best ts) c j (l .0) (l .1) (omega arith) in
     omega (arith, plus-within (option t j .cost) (best ts (c - option t j .need)) (omega arith))

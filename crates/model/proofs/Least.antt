@@ -60,10 +60,14 @@ pub record Found (t : Task) (next : ℕ → ℕ) (c v : ℕ) : Type 0 where
   pub small : option t at .need ≤ c
   pub same : onward (option t at) next c ≡ v
 
-min-pick : (a b : ℕ) → ((a ≤ b) × (min a b ≡ a)) ⊎ ((b < a) × (min a b ≡ b))
+-- which of two is the smaller
+abbrev Pick : ℕ → ℕ → Type 0
+Pick a b = ((a ≤ b) × (min a b ≡ a)) ⊎ ((b < a) × (min a b ≡ b))
+
+min-pick : (a b : ℕ) → Pick a b
 min-pick a b = go (leb a b) refl
   where
-    go : (t : Bool) → leb a b ≡ t → ((a ≤ b) × (min a b ≡ a)) ⊎ ((b < a) × (min a b ≡ b))
+    go : (t : Bool) → leb a b ≡ t → Pick a b
     go true e = let h = leb-true a b e in inl (omega arith)
     go false e = let h = leb-false a b e in inr (omega arith)
 
@@ -79,15 +83,8 @@ unfolding least
 least-found [] next c h = absurd (omega arith)
 least-found (o ∷ os) next c h = go (min-pick (offer o next c) (least os next c)) (least-found os next c)
   where
-    a : ℕ
-    a = offer o next c
-
-    b : ℕ
-    b = least os next c
-
-    go : ((offer o next c ≤ least os next c) × (min (offer o next c) (least os next c) ≡ offer o next c)) ⊎
-        ((least os next c < offer o next c) × (min (offer o next c) (least os next c) ≡ least os next c)) →
-        (least os next c ≤ ceiling → Found os next c (least os next c)) → Found (o ∷ os) next c (min (offer o next c) (least os next c))
+    go : Pick (offer o next c) (least os next c) → (least os next c ≤ ceiling → Found os next c (least os next c))
+        → Found (o ∷ os) next c (min (offer o next c) (least os next c))
     go (inl k) ih =
         let e : may o c ≡ true = offer-taken o next c (omega arith) in
         let x : offer o next c ≡ onward o next c = simp e in

@@ -21,7 +21,6 @@ lawful-keeps : (rows : ℕ → ℕ → ℕ) (i : ℕ) (ts : List Task) (c : ℕ)
 unfolding allKeep trace
 lawful-keeps rows i [] c l = refl
 lawful-keeps rows i (t ∷ ts) c l =
-    let j : ℕ = lowest t (rows (suc i)) c (rows i c) in
     rw (lt-ltb (lowest t (rows (suc i)) c (rows i c)) (length t) (l .0))
     (lawful-keeps rows (suc i) ts (c - option t (lowest t (rows (suc i)) c (rows i c)) .need) (l .2))
 

@@ -39,7 +39,6 @@ module _ (ts : List Task) (m : ℕ) where
       let r : rowOf (length ts) m p ≡ length ts = omega arith in
       rw (eq-eqb (rowOf (length ts) m p) (length ts) r, sub-zero, drop-length)
   rule-at ws p (suc q) c f h eq ec k e =
-      let i : ℕ = length ts - suc q in
       let s : suc (length ts - suc q) ≡ length ts - suc q + 1 = omega arith in
       let d : drop (length ts - suc q) ts ≡ getD ts (length ts - suc q) [] ∷ drop (length ts - suc q + 1) ts =
       drop-cons ts (length ts - suc q) [] (omega arith) ∙ ap (λ (x : ℕ). getD ts (length ts - suc q) [] ∷ drop x ts) s in
