@@ -1,5 +1,5 @@
 -- Laws of `reads`, `plus` and `may`, by which nothing else opens them. Assumes nothing.
-use mathlib.Core.Path.{_≡_, refl, ap, sym, _∙_}
+use mathlib.Core.Path.{_≡_, refl, sym}
 use mathlib.Core.Logic.{_⊎_, inl, inr}
 use mathlib.Core.Bool.{Bool, true, false, _&&_}
 use Prim.Native.Nat.{ℕ, _+_, _≤_, _<_}
@@ -81,12 +81,3 @@ may-true o c e = go (o .permitted) e
     go : (b : Bool) → b && leb (o .need) c ≡ true → T b × (o .need ≤ c)
     go true q = (tt, leb-true (o .need) c q)
     go false q = clash (sym q)
-
--- what reads as the mark makes the sum the mark: the sum need not look at how a cell reads
-pub plus-reads : (a b : ℕ) → plus a (reads b) ≡ plus a b
-plus-reads a b = go (within b)
-  where
-    go : (b ≤ ceiling) ⊎ (ceiling < b) → plus a (reads b) ≡ plus a b
-    go (inl h) = ap (plus a) (reads-within b h)
-    go (inr h) =
-        ap (plus a) (reads-above b h) ∙ plus-above a mark (omega arith) ∙ sym (plus-above a b (omega arith))

@@ -15,7 +15,6 @@ use Rattle.answer.proofs.Bools.{clash, or-false}
 use Rattle.answer.proofs.Rows.{none-append, none-first, first-none}
 use Rattle.answer.proofs.Elses.{passed, answered}
 use Rattle.model.specs.Rules.{meets}
-use Rattle.model.proofs.Rules.{meets-fact}
 use Rattle.block.specs.Layout.{tasksIn, coresIn, commonIn, elasticityIn, modesIn, permittedIn, taskNumberIn, Figures, figuresIn, figuresFrom}
 use Rattle.block.specs.Tests.{outside, wrongCommon, allows, anyAllowed, figureRows, modesRows}
 use Rattle.block.proofs.Masks.{Allowed, any-found, any-none}
@@ -51,7 +50,7 @@ figures-lawful at H f p =
       span-low = positive L (zeros .1);
       span-high = ltb-false C L (spans .1);
       work-high = ltb-false (64 * T) C (twelve .1);
-      meeting = meets-fact C L T (not-false (meets C L T) (p .1 .1 .0));
+      meeting = not-false (meets C L T) (p .1 .1 .0);
     }
 
 header-lawful : (block : List ℕ) → NoneGiven (headerRows block) → LawfulHeader block

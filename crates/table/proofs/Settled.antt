@@ -1,6 +1,9 @@
 -- Each public promise settles its outcome. Assumes nothing.
+use Prim.Native.Nat.{ℕ}
+use mathlib.Core.List.{List}
 use mathlib.Core.Path.{refl, sym, _∙_}
 use Rattle.answer.specs.One.{One, OneSeen}
+use Rattle.answer.proofs.Pair.{pair}
 use Rattle.table.proofs.Readings.{one-reading}
 use Rattle.table.proofs.task_block.Kinds as task-block-kinds
 use Rattle.table.proofs.task_block.Reads as task-block-reads
@@ -11,9 +14,10 @@ use Rattle.table.proofs.ask_task.Reads as ask-task-reads
 use Rattle.table.proofs.ask_mode.Kinds as ask-mode-kinds
 use Rattle.table.proofs.ask_mode.Reads as ask-mode-reads
 
--- the bytes of the part that is answered; its pointer and its ghost name are no part of a promise
-pub task-block-one : OneSeen task-block-kinds.ps task-block-kinds.r (λ κs x. x .now) task-block-reads.Post
-task-block-one κs a x y s t p q = (p ∙ sym q, refl)
+-- where the part stands and its bytes; the reference's ghost name is a new one at each call
+pub task-block-one : OneSeen {A = λ κs. (ℕ × ℕ) × List ℕ} task-block-kinds.ps task-block-kinds.r (λ κs x. (x .ptr, x .now)) task-block-reads.Post
+task-block-one κs a x y s t p q =
+    (pair (pair (p .whose ∙ sym (q .whose)) (p .place ∙ sym (q .place))) (p .bytes ∙ sym (q .bytes)), refl)
 
 pub check-one : One check-kinds.ps check-kinds.r check-reads.Post
 check-one κs a x y s t p q = (one-reading x y p q, refl)

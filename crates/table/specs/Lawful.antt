@@ -3,8 +3,8 @@ use Prim.Native.Nat.{ℕ, _+_, _*_, _%_, _≤_, _<_}
 use mathlib.Core.List.{List}
 use mathlib.Core.Bool.{true, false}
 use mathlib.Core.Path.{_≡_}
-use mathlib.Core.Logic.{_⊎_}
 use lib.ListN.{length}
+use Rattle.model.specs.Rules.{meets}
 use Rattle.block.specs.Layout.{tasksIn, coresIn, commonIn, elasticityIn, modesIn, permittedIn, taskNumberIn, Figures, figuresIn}
 use Rattle.block.specs.Tests.{allows}
 use Rattle.table.specs.Order.{headerBlock, taskBlock}
@@ -36,7 +36,7 @@ pub record LawfulFigures (H : ℕ) (f : Figures) : Type 0 where
   pub span-low : 1 ≤ f .span
   pub span-high : f .span ≤ f .work
   pub work-high : f .work ≤ 64 * f .period
-  pub meeting : ((f .work ≡ f .span) × (f .span ≤ f .period)) ⊎ ((f .span < f .period) × (f .span < f .work))
+  pub meeting : meets (f .work) (f .span) (f .period) ≡ true
 
 pub record LawfulTable (bytes : List ℕ) : Type 0 where
   pub long : length bytes ≡ 512 * (tasksIn (headerBlock bytes) + 1)

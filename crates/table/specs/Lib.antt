@@ -1,3 +1,4 @@
 pub mod Said
+pub mod Part
 pub mod Order
 pub mod Lawful

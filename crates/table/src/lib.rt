@@ -1,17 +1,17 @@
 // Reading a table: its checks in the document's order, and its numbers.
 ghost use mathlib.Core.Path.{_≡_};
 ghost use mathlib.Core.Bool.{not};
+ghost use Prim.Native.Nat.{_+_, _*_};
 ghost use lib.Dec.{eqb};
-ghost use lib.ListN.{take, drop};
 ghost use Rattle.answer.specs.Said.{refused, figures};
 ghost use Rattle.answer.specs.Order.{first};
 ghost use Rattle.block.specs.Bytes.{number};
 ghost use Rattle.block.specs.Layout.{headerUnused, taskNumberIn, taskUnused, listed, figuresIn};
 ghost use Rattle.block.specs.Tests.{figureRows};
 ghost use Rattle.table.specs.Said.{said};
+ghost use Rattle.table.specs.Part.{Part};
 ghost use Rattle.table.specs.Order.{
   headerBlock,
-  taskBlock,
   wrongCheck,
   headerRows,
   headerSaid,
@@ -67,7 +67,7 @@ fn refuse(number: u8, at: u32) -> Reading
 
 // The 512 bytes from an offset on; fewer where the bytes end before.
 fn block_from(bytes: &[u8], start: usize) -> &[u8]
-    ensures { λ r. ⌜ now r ≡ take 512 (drop start (now (bytes .entry))) ⌝ }
+    ensures { λ r. ⌜ Part start (bytes .entry) r ⌝ }
 {
     let len = bytes.len();
     if len <= start {
@@ -79,9 +79,9 @@ fn block_from(bytes: &[u8], start: usize) -> &[u8]
     &bytes[start..start + 512]
 }
 
-// The block of a task: the one way to its bytes.
+// The block of a task, a part of the lent table: the one way to its bytes.
 pub fn task_block(table: &[u8], task: u32) -> &[u8]
-    ensures { λ r. ⌜ now r ≡ taskBlock (now (table .entry)) task ⌝ }
+    ensures { λ r. ⌜ Part (512 * (task + 1)) (table .entry) r ⌝ }
 {
     block_from(table, 512 * (task as usize + 1))
 }

@@ -9,7 +9,7 @@ use Rattle.answer.specs.Said.{Said, refused}
 use Rattle.answer.specs.Order.{first}
 use Rattle.answer.proofs.Elses.{stopped, answered, went-on}
 use Rattle.block.specs.Layout.{modesIn, figuresIn}
-use Rattle.table.specs.Order.{taskBlock, taskSaid, figuresSaid, askTaskRows, askModeRows}
+use Rattle.table.specs.Order.{blockAt, taskBlock, taskSaid, figuresSaid, askTaskRows, askModeRows}
 use Rattle.table.specs.Said.{said}
 use Rattle.table.proofs.Readings.{reading}
 use Rattle.table.proofs.Rows.{ask-mode-first}
@@ -26,10 +26,10 @@ enum-known-got c = search needs
 returns : tie.Need-returns
 returns c =
     let a = c .before .before .before .args in
+    let rows = askTaskRows (a .table .now) (a .task) in
+    let S = taskSaid (taskBlock (a .table .now) (a .task)) in
     let r = c .before .ask-task in
-    stopped reading (0 ∷ 1 ∷ 3 ∷ []) (r .result) (askTaskRows (a .table .now) (a .task)) (taskSaid (taskBlock (a .table .now) (a .task))) _ tt
-    (c .match .keys2) (r .ensures)
-    ∙ sym (ask-mode-first (a .table .now) (a .task) (a .mode) _)
+    stopped reading (0 ∷ 1 ∷ 3 ∷ []) (r .result) rows S _ tt (c .match .keys2) (r .ensures) ∙ sym (ask-mode-first (a .table .now) (a .task) (a .mode) _)
 
 -- past the rows before 19
 past : (c : tie.After-known-told) (s : Said)
@@ -37,16 +37,16 @@ past : (c : tie.After-known-told) (s : Said)
     first (askModeRows (a .table .now) (a .task) (a .mode)) s ≡ cond (leb (c .before .got .given .0 .1 .0) (a .mode)) (refused 19 0) s
 past c s =
     let a = c .before .before .before .before .before .args in
+    let rows = askTaskRows (a .table .now) (a .task) in
+    let S = taskSaid (taskBlock (a .table .now) (a .task)) in
     let r = c .before .before .before .ask-task in
     let key = c .before .before .match .keys1 in
-    let same = sym (ap said (c .before .got .given .1))
-    ∙ answered reading (2 ∷ []) (r .result) (askTaskRows (a .table .now) (a .task)) (taskSaid (taskBlock (a .table .now) (a .task))) tt key
-    (r .ensures) in
-    let n : modesIn (taskBlock (a .table .now) (a .task)) ≡ c .before .got .given .0 .1 .0 = cc in
+    let g = c .before .got .given in
+    let same = sym (ap said (g .1)) ∙ answered reading (2 ∷ []) (r .result) rows S tt key (r .ensures) in
+    let n : modesIn (taskBlock (a .table .now) (a .task)) ≡ g .0 .1 .0 = cc in
     ask-mode-first (a .table .now) (a .task) (a .mode) s
-    ∙ went-on reading (2 ∷ []) (r .result) (askTaskRows (a .table .now) (a .task)) (taskSaid (taskBlock (a .table .now) (a .task))) tt key
-    (r .ensures) _
-    ∙ ap (λ (k : ℕ). cond (leb k (a .mode)) (refused 19 0) s) n
+    ∙ went-on reading (2 ∷ []) (r .result) rows S tt key (r .ensures) _
+    ∙ ap (λ (x : ℕ). cond (leb x (a .mode)) (refused 19 0) s) n
 
 cast-if1 : tie.Need-cast-if1
 cast-if1 c = search needs
@@ -68,10 +68,11 @@ mode-figures-requires : tie.Need-mode-figures-requires
 mode-figures-requires c κs = search needs
 
 returns-3 : tie.Need-returns-3
+unfolding blockAt
 returns-3 c =
-    c .mode-figures .ensures
-    ∙ ap (λ (b : List ℕ). figuresSaid (figuresIn b (c .before .before .before .before .before .before .before .before .args .mode)))
-    (c .before .task-block .ensures) ∙ sym (past (c .before .before .before) _ ∙ rw (lt-leb _ _ (c .before .before .if1 .left)))
+    let j = c .before .before .before .before .before .before .before .before .args .mode in
+    c .mode-figures .ensures ∙ ap (λ (b : List ℕ). figuresSaid (figuresIn b j)) (c .before .task-block .ensures .bytes)
+    ∙ sym (past (c .before .before .before) _ ∙ rw (lt-leb _ _ (c .before .before .if1 .left)))
 
 pub ask-mode-spec : {M : Type 1} → statement M
 ask-mode-spec =

@@ -9,7 +9,7 @@ use Rattle.answer.specs.Said.{Said, refused}
 use Rattle.answer.specs.Order.{first}
 use Rattle.answer.proofs.Elses.{stopped, answered, went-on}
 use Rattle.block.specs.Layout.{tasksIn}
-use Rattle.table.specs.Order.{headerBlock, headerSaid, taskSaid, tableRows, askTaskRows}
+use Rattle.table.specs.Order.{blockAt, headerBlock, headerSaid, taskSaid, tableRows, askTaskRows}
 use Rattle.table.specs.Said.{said}
 use Rattle.table.proofs.Readings.{reading}
 use Rattle.table.proofs.Rows.{ask-task-first}
@@ -26,10 +26,10 @@ enum-known-got c = search needs
 returns : tie.Need-returns
 returns c =
     let a = c .before .before .before .args in
+    let rows = tableRows (a .table .now) in
+    let S = headerSaid (headerBlock (a .table .now)) in
     let r = c .before .check in
-    stopped reading (0 ∷ 2 ∷ 3 ∷ []) (r .result) (tableRows (a .table .now)) (headerSaid (headerBlock (a .table .now))) _ tt (c .match .keys2)
-    (r .ensures)
-    ∙ sym (ask-task-first (a .table .now) (a .task) _)
+    stopped reading (0 ∷ 2 ∷ 3 ∷ []) (r .result) rows S _ tt (c .match .keys2) (r .ensures) ∙ sym (ask-task-first (a .table .now) (a .task) _)
 
 -- past the rows before 19
 past : (c : tie.After-known-told) (s : Said)
@@ -37,14 +37,16 @@ past : (c : tie.After-known-told) (s : Said)
     first (askTaskRows (a .table .now) (a .task)) s ≡ cond (leb (c .before .got .given .0 .0) (a .task)) (refused 19 0) s
 past c s =
     let a = c .before .before .before .before .before .args in
+    let rows = tableRows (a .table .now) in
+    let S = headerSaid (headerBlock (a .table .now)) in
     let r = c .before .before .before .check in
     let key = c .before .before .match .keys1 in
-    let same = sym (ap said (c .before .got .given .1))
-    ∙ answered reading (1 ∷ []) (r .result) (tableRows (a .table .now)) (headerSaid (headerBlock (a .table .now))) tt key (r .ensures) in
-    let n : tasksIn (headerBlock (a .table .now)) ≡ c .before .got .given .0 .0 = cc in
+    let g = c .before .got .given in
+    let same = sym (ap said (g .1)) ∙ answered reading (1 ∷ []) (r .result) rows S tt key (r .ensures) in
+    let n : tasksIn (headerBlock (a .table .now)) ≡ g .0 .0 = cc in
     ask-task-first (a .table .now) (a .task) s
-    ∙ went-on reading (1 ∷ []) (r .result) (tableRows (a .table .now)) (headerSaid (headerBlock (a .table .now))) tt key (r .ensures) _
-    ∙ ap (λ (k : ℕ). cond (leb k (a .task)) (refused 19 0) s) n
+    ∙ went-on reading (1 ∷ []) (r .result) rows S tt key (r .ensures) _
+    ∙ ap (λ (x : ℕ). cond (leb x (a .task)) (refused 19 0) s) n
 
 cast-if1 : tie.Need-cast-if1
 cast-if1 c = search needs
@@ -63,8 +65,9 @@ task-numbers-requires : tie.Need-task-numbers-requires
 task-numbers-requires c κs = search needs
 
 returns-3 : tie.Need-returns-3
+unfolding blockAt
 returns-3 c =
-    c .task-numbers .ensures ∙ ap taskSaid (c .before .task-block .ensures)
+    c .task-numbers .ensures ∙ ap taskSaid (c .before .task-block .ensures .bytes)
     ∙ sym (past (c .before .before .before) _ ∙ rw (lt-leb _ _ (c .before .before .if1 .left)))
 
 pub ask-task-spec : {M : Type 1} → statement M

@@ -1,5 +1,7 @@
 -- `table::block_from` meets its contract. By the three cases of what is left. Assumes nothing.
 use Rattle.table.proofs.Blocks.{block-none, block-rest, block-whole}
+use mathlib.Core.Path.{refl}
+use native.Mathlib.Omega.{arith}
 use borrow.Author.Needs.{needs}
 use Rattle.table.proofs.block_from.Statement.{statement}
 use Rattle.table.proofs.block_from.Tie as tie
@@ -14,7 +16,9 @@ part-result-end : tie.Need-part-result-end
 part-result-end c = search needs
 
 returns : tie.Need-returns
-returns c = block-none (c .before .before .args .bytes .now) (c .before .before .args .start) (c .before .if1 .taken)
+returns c =
+    let a = c .before .before .args in
+    record { bytes = block-none (a .bytes .now) (a .start) (c .before .if1 .taken); whose = refl; place = omega arith }
 
 sub-if2 : tie.Need-sub-if2
 sub-if2 c = search needs
@@ -29,7 +33,9 @@ part-result-end-2 : tie.Need-part-result-end-2
 part-result-end-2 c = search needs
 
 returns-2 : tie.Need-returns-2
-returns-2 c = block-rest (c .before .before .before .args .bytes .now) (c .before .before .before .args .start) (c .before .if2 .taken)
+returns-2 c =
+    let a = c .before .before .before .args in
+    record { bytes = block-rest (a .bytes .now) (a .start) (c .before .if2 .taken); whose = refl; place = omega arith }
 
 add-result : tie.Need-add-result
 add-result c = search needs
@@ -44,7 +50,9 @@ part-result-end-3 : tie.Need-part-result-end-3
 part-result-end-3 c = search needs
 
 returns-3 : tie.Need-returns-3
-returns-3 c = block-whole (c .before .before .before .args .bytes .now) (c .before .before .before .args .start)
+returns-3 c =
+    let a = c .before .before .before .args in
+    record { bytes = block-whole (a .bytes .now) (a .start); whose = refl; place = omega arith }
 
 pub block-from-spec : {M : Type 1} → statement M
 block-from-spec =

@@ -8,7 +8,7 @@ use Rattle.table.specs.Said.{said}
 use Rattle.table.proofs.Readings.{reading}
 use native.Mathlib.Nat.{sub-zero}
 use Rattle.block.specs.Layout.{tasksIn, commonIn}
-use Rattle.table.specs.Order.{headerBlock, taskBlock, headerSaid, taskSaid, wholeTaskRows, frontRows, tasksRows, tableSaid}
+use Rattle.table.specs.Order.{blockAt, headerBlock, taskBlock, headerSaid, taskSaid, wholeTaskRows, frontRows, tasksRows, tableSaid}
 use Rattle.table.proofs.Rows.{table-first, tasks-more, tasks-end}
 use borrow.Author.Needs.{needs}
 use Rattle.table.proofs.check.Statement.{statement}
@@ -69,11 +69,12 @@ checked : (c : tie.After-check-task Inv-loop μ-loop)
     let block = taskBlock (c .before .before .before .before .before .before .before .before .before .args .table .now) i in
     said (c .check-task .result) ≡ first (wholeTaskRows (c .before .before .before .before .before .got .given .0 .1 .1 .0) i (i + 1) block)
     (taskSaid block)
+unfolding blockAt
 checked c =
     let i = c .before .before .before .loop .i in
     c .check-task .ensures
     ∙ ap (λ (b : List ℕ). first (wholeTaskRows (c .before .before .before .before .before .got .given .0 .1 .1 .0) i (i + 1) b) (taskSaid b))
-    (c .before .task-block .ensures)
+    (c .before .task-block .ensures .bytes)
 
 enum-told : tie.Need-enum-told Inv-loop μ-loop
 enum-told c = search needs

@@ -46,7 +46,7 @@ header : (c : tie.After-read-header)
     → let block = headerBlock (c .before .before .before .before .before .args .table .now) in
     said (c .read-header .result) ≡ first (headerRows block) (headerSaid block)
 unfolding blockAt
-header c = c .read-header .ensures ∙ ap (λ (b : List ℕ). first (headerRows b) (headerSaid b)) (c .before .block-from .ensures)
+header c = c .read-header .ensures ∙ ap (λ (b : List ℕ). first (headerRows b) (headerSaid b)) (c .before .block-from .ensures .bytes)
 
 enum-known-got : tie.Need-enum-known-got
 enum-known-got c = search needs
@@ -73,8 +73,8 @@ past c =
 -- and the pattern binds the header's own numbers
 same : (c : tie.After-known-told)
     → let g = c .before .got .given .0 in
-    told.header (g .0) (g .1 .0) (g .1 .1 .0) ≡ headerSaid
-    (headerBlock (c .before .before .before .before .before .before .before .before .args .table .now))
+    let bytes = c .before .before .before .before .before .before .before .before .args .table .now in
+    told.header (g .0) (g .1 .0) (g .1 .1 .0) ≡ headerSaid (headerBlock bytes)
 same c =
     let block = headerBlock (c .before .before .before .before .before .before .before .before .args .table .now) in
     let r = c .before .before .before .read-header in
@@ -89,9 +89,9 @@ lengths : (c : tie.After-other-length)
     → let bytes = c .before .before .before .before .before .before .before .before .before .args .table .now in
     c .other-length .result ≡ otherLength bytes (tasksIn (headerBlock bytes))
 lengths c =
+    let bytes = c .before .before .before .before .before .before .before .before .before .args .table .now in
     let s = same (c .before) in
-    let n : c .before .before .got .given .0 .0 ≡ tasksIn
-    (headerBlock (c .before .before .before .before .before .before .before .before .before .args .table .now)) = cc in
+    let n : c .before .before .got .given .0 .0 ≡ tasksIn (headerBlock bytes) = cc in
     c .other-length .ensures ∙ simp n
 
 refuse-requires-2 : tie.Need-refuse-requires-2

@@ -1,5 +1,4 @@
 -- `table::task_block` meets its contract. Assumes nothing.
-use Rattle.table.specs.Order.{blockAt}
 use borrow.Author.Needs.{needs}
 use Rattle.table.proofs.task_block.Statement.{statement}
 use Rattle.table.proofs.task_block.Tie as tie
@@ -14,7 +13,6 @@ block-from-requires : tie.Need-block-from-requires
 block-from-requires c κs = search needs
 
 returns : tie.Need-returns
-unfolding blockAt
 returns c = c .block-from .ensures
 
 pub task-block-spec : {M : Type 1} → statement M
