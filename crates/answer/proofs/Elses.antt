@@ -8,8 +8,9 @@ use lib.Dec.{T}
 use mir.Val.{hasKey}
 use types.Run.{OneOf, miss}
 use Rattle.answer.specs.Said.{Said}
-use Rattle.answer.specs.Order.{Row, first, NoneGiven}
+use Rattle.answer.specs.Order.{Row, first, Outcome, NoneGiven}
 use Rattle.answer.proofs.Rows.{kind, stop, first-none, none-first}
+use Rattle.answer.proofs.Outcomes.{stops}
 
 says-one : (says : ℕ → ℕ) (ks : List ℕ) (x : ℕ) → OneOf ks x → OneOf (map says ks) (says x)
 says-one says [] x h = h
@@ -33,6 +34,11 @@ module _ {R : Type 0} (e : Tells R) where
   pub stopped : (ks : List ℕ) (r : R) (A : List Row) (s t : Said) → T (not (hasKey (map (e .says) ks) (kind s))) → OneOf ks (e .tag r)
       → e .said r ≡ first A s → e .said r ≡ first A t
   stopped ks r A s t out one q = stop A s t (other ks r (kind s) out one) q
+
+  -- and a lent buffer is as it was
+  pub kept : (ks : List ℕ) (r : R) (A : List Row) (s t : Said) (before after : List ℕ) → T (not (hasKey (map (e .says) ks) (kind s)))
+      → OneOf ks (e .tag r) → e .said r ≡ first A s → Outcome A t before after (e .said r) before
+  kept ks r A s t before after out one q = stops A s t before after (other ks r (kind s) out one) q
 
   -- past it: a refusal is of none of the kinds, so no row was given, r is the rest, and any other rest would follow too
   module _ (ks : List ℕ) (r : R) (A : List Row) (s : Said) (out : T (not (hasKey (map (e .says) ks) 0))) (one : OneOf ks (e .tag r))

@@ -1,4 +1,5 @@
 pub mod Bools
 pub mod Rows
+pub mod Outcomes
 pub mod Elses
 pub mod Pair

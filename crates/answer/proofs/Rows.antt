@@ -17,6 +17,10 @@ pub none-append : (A B : List Row) → NoneGiven (A ++ B) → NoneGiven A × Non
 none-append [] B p = (tt, p)
 none-append (row n k b ∷ A) B p = let r = none-append A B (p .1) in ((p .0, r .0), r .1)
 
+pub append-none : (A B : List Row) → NoneGiven A → NoneGiven B → NoneGiven (A ++ B)
+append-none [] B p q = q
+append-none (row n k b ∷ A) B p q = (p .0, append-none A B (p .1) q)
+
 -- where no row is given the rest is answered
 pub none-first : (A : List Row) (s : Said) → NoneGiven A → first A s ≡ s
 none-first [] s p = refl

@@ -14,6 +14,16 @@ abbrev pub first : List Row → Said → Said
 first [] rest = rest
 first (row number at given ∷ rows) rest = cond given (refused number at) (first rows rest)
 
+-- what a lent buffer holds afterwards: what it held before where a row is given
+abbrev pub left : {A : Type 0} → List Row → A → A → A
+left [] before after = after
+left (row number at given ∷ rows) before after = cond given before (left rows before after)
+
+-- the outcome of a call that may change a lent buffer: what it says, and what the buffer holds
+pub record Outcome (rows : List Row) (rest : Said) (before after : List ℕ) (s : Said) (e : List ℕ) : Type 0 where
+  pub says : s ≡ first rows rest
+  pub leaves : e ≡ left rows before after
+
 -- no row is given
 abbrev pub NoneGiven : List Row → Type 0
 NoneGiven [] = Unit

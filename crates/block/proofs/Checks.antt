@@ -6,21 +6,23 @@ use native.Mathlib.Numerals.{add-one}
 use native.Mathlib.Omega.{arith}
 use mathlib.Core.Path.{_≡_, refl, ap, subst, _∙_}
 use mathlib.Core.Logic.{⊎-elim}
-use mathlib.Core.List.{List}
-use lib.ListN.{length, getD, set, length-set}
+use mathlib.Core.List.{List, _++_}
+use lib.ListN.{length, getD, set, length-set, List·getD-append}
 use lib.Seq.{getD-set-same, getD-set-other}
-use Rattle.block.specs.Bytes.{weighed, checkOf}
+use Rattle.block.specs.Bytes.{Bytes, weighed, checkOf}
 
 -- one more byte
 pub weighed-more : (n : ℕ) (s : List ℕ) → weighed (n + 1) s ≡ weighed n s + (n + 1) * getD s n 0
 unfolding weighed
 weighed-more n s = ap (λ (k : ℕ). weighed k s) (add-one n)
 
--- ---- how large
--- each element is a byte
-abbrev pub Bytes : List ℕ → Type 0
-Bytes s = (i : ℕ) → getD s i 0 < 256
+-- it sees the bytes below the offset only
+pub weighed-front : (n : ℕ) (a b : List ℕ) → n ≤ length a → weighed n (a ++ b) ≡ weighed n a
+unfolding weighed
+weighed-front zero a b h = refl
+weighed-front (suc n) a b h = rw (weighed-front n a b (omega arith), List·getD-append a b 0 n (omega arith))
 
+-- ---- how large
 pub term-small : (n b : ℕ) → n < 508 → b < 256 → (n + 1) * b ≤ 129540
 term-small n b p q =
     let x : n + 1 ≤ 508 = omega arith in

@@ -3,4 +3,7 @@ pub mod Checks
 pub mod Zeros
 pub mod Masks
 pub mod Figures
+pub mod Laid
+pub mod Whole
+pub mod Round
 pub mod Settled

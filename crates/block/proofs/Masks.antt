@@ -6,8 +6,8 @@ use borrow.Author.Tests.{ne-eqb}
 use lib.Bits.{bitAnd, and-mask}
 use lib.Pow.{pow-mono, shr-lt}
 use lib.Dec.{eqb}
-use mathlib.Core.Path.{_≡_, sym, ap, subst}
-use mathlib.Core.Bool.{true, false, _||_}
+use mathlib.Core.Path.{_≡_, refl, sym, ap, subst}
+use mathlib.Core.Bool.{Bool, true, false, _||_}
 use mathlib.Core.Logic.{⊎-elim}
 use Rattle.answer.proofs.Bools.{clash, or-true, or-false}
 use Rattle.block.specs.Tests.{allows, anyAllowed}
@@ -58,3 +58,21 @@ any-none permitted j (suc k) e i low high =
     ⊎-elim (λ same. subst (λ (x : ℕ). allows permitted x ≡ false) same (r .0))
     (λ more. any-none permitted (j + 1) k (r .1) i (omega arith) (omega arith))
     (eq-or-lt-of-le low)
+
+-- and back
+or-right : (a : Bool) → (a || true) ≡ true
+or-right true = refl
+or-right false = refl
+
+pub any-is : (permitted j k i : ℕ) → j ≤ i → i < j + k → allows permitted i ≡ true → anyAllowed permitted j k ≡ true
+unfolding anyAllowed
+any-is permitted j zero i low high e = absurd (omega arith)
+any-is permitted j (suc k) i low high e =
+    ⊎-elim (λ same. let here : allows permitted j ≡ true = rw same e in rw here) (λ more. rw (any-is permitted (j + 1) k i (omega arith) (omega arith) e) (or-right (allows permitted j)))
+    (eq-or-lt-of-le low)
+
+pub any-are-not : (permitted j k : ℕ) → ((i : ℕ) → j ≤ i → i < j + k → allows permitted i ≡ false) → anyAllowed permitted j k ≡ false
+unfolding anyAllowed
+any-are-not permitted j zero none = refl
+any-are-not permitted j (suc k) none =
+    rw (none j (omega arith) (omega arith), any-are-not permitted (j + 1) k (λ i low high. none i (omega arith) (omega arith)))

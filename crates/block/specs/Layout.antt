@@ -59,6 +59,17 @@ abbrev pub figuresIn : List ℕ → ℕ → Figures
 figuresIn block j = listed (number 4 (8 + 12 * j) block) (number 4 (12 + 12 * j) block) (number 4 (16 + 12 * j) block)
 
 -- and of the modes in turn, left of them from j on
-unfoldable pub figuresFrom : List ℕ → ℕ → ℕ → List Figures
-figuresFrom block j zero = []
-figuresFrom block j (suc left) = figuresIn block j ∷ figuresFrom block (j + 1) left
+unfoldable pub figuresFrom : (ℕ → Figures) → ℕ → ℕ → List Figures
+figuresFrom figures j zero = []
+figuresFrom figures j (suc left) = figures j ∷ figuresFrom figures (j + 1) left
+
+-- as they are lent to the writer: three numbers for each mode
+unfoldable pub flat : List Figures → List ℕ
+flat [] = []
+flat (f ∷ fs) = f .work ∷ f .span ∷ f .period ∷ flat fs
+
+unfoldable pub threes : List ℕ → List Figures
+threes [] = []
+threes (C ∷ []) = []
+threes (C ∷ L ∷ []) = []
+threes (C ∷ L ∷ T ∷ rest) = listed C L T ∷ threes rest

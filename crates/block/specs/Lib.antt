@@ -1,3 +1,4 @@
 pub mod Bytes
 pub mod Layout
+pub mod Whole
 pub mod Tests

@@ -1,10 +1,13 @@
--- The 512 bytes from an offset on, by the three cases of the code. Assumes nothing.
-use Prim.Native.Nat.{ℕ, _+_, _-_, _≤_}
+-- The 512 bytes from an offset on, by the three cases of the code; and blocks. Assumes nothing.
+use Prim.Native.Nat.{ℕ, _+_, _-_, _*_, _≤_}
 use native.Mathlib.Omega.{arith}
 use mathlib.Core.Path.{_≡_, sym, _∙_}
 use mathlib.Core.List.{List}
 use lib.ListN.{length, take, drop, length-drop, drop-of-length-le}
 use lib.Seq.{take-nil, take-all}
+use Rattle.block.specs.Bytes.{Bytes}
+use Rattle.block.proofs.Laid.{bytes-take, bytes-drop}
+use Rattle.table.specs.Order.{blockAt}
 
 module _ (s : List ℕ) (start : ℕ) where
   -- nothing is left
@@ -22,3 +25,8 @@ module _ (s : List ℕ) (start : ℕ) where
   -- more are left
   pub block-whole : take (start + 512 - start) (drop start s) ≡ take 512 (drop start s)
   block-whole = let e : start + 512 - start ≡ 512 = omega arith in rw e
+
+-- a block of bytes is bytes
+pub bytes-block : (k : ℕ) (bytes : List ℕ) → Bytes bytes → Bytes (blockAt k bytes)
+unfolding blockAt
+bytes-block k bytes b = bytes-take 512 (drop (512 * k) bytes) (bytes-drop (512 * k) bytes b)

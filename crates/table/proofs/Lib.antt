@@ -1,6 +1,7 @@
 pub mod Readings
 pub mod Blocks
 pub mod Rows
+pub mod Limits
 pub mod Accepted
 pub mod Settled
 pub mod Zero

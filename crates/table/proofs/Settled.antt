@@ -7,6 +7,8 @@ use Rattle.answer.proofs.Pair.{pair}
 use Rattle.table.proofs.Readings.{one-reading}
 use Rattle.table.proofs.task_block.Kinds as task-block-kinds
 use Rattle.table.proofs.task_block.Reads as task-block-reads
+use Rattle.table.proofs.test_figures.Kinds as test-figures-kinds
+use Rattle.table.proofs.test_figures.Reads as test-figures-reads
 use Rattle.table.proofs.check.Kinds as check-kinds
 use Rattle.table.proofs.check.Reads as check-reads
 use Rattle.table.proofs.ask_task.Kinds as ask-task-kinds
@@ -18,6 +20,9 @@ use Rattle.table.proofs.ask_mode.Reads as ask-mode-reads
 pub task-block-one : OneSeen {A = λ κs. (ℕ × ℕ) × List ℕ} task-block-kinds.ps task-block-kinds.r (λ κs x. (x .ptr, x .now)) task-block-reads.Post
 task-block-one κs a x y s t p q =
     (pair (pair (p .whose ∙ sym (q .whose)) (p .place ∙ sym (q .place))) (p .bytes ∙ sym (q .bytes)), refl)
+
+pub test-figures-one : One test-figures-kinds.ps test-figures-kinds.r test-figures-reads.Post
+test-figures-one κs a x y s t p q = (one-reading x y p q, refl)
 
 pub check-one : One check-kinds.ps check-kinds.r check-reads.Post
 check-one κs a x y s t p q = (one-reading x y p q, refl)

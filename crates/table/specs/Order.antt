@@ -61,7 +61,7 @@ figuresSaid f = figures (f .work) (f .span) (f .period)
 
 -- and its modes
 unfoldable pub wholeTaskRows : ℕ → ℕ → ℕ → List ℕ → List Row
-wholeTaskRows H i at block = taskRows i at block ++ modesRows at H (figuresFrom block 0 (modesIn block))
+wholeTaskRows H i at block = taskRows i at block ++ modesRows at H (figuresFrom (figuresIn block) 0 (modesIn block))
 
 -- ---- the table: 1 and 7 are of its length
 abbrev pub wrongLength : List ℕ → Bool

@@ -206,8 +206,8 @@ fn mode_figures(block: &[u8], mode: u8) -> Reading
     Reading::Figures { work, span, period }
 }
 
-// A mode's figures, after their tests.
-fn test_figures(common: u32, work: u32, span: u32, period: u32, at: u32) -> Reading
+// A mode's figures, after their tests; a refusal names `at`.
+pub fn test_figures(common: u32, work: u32, span: u32, period: u32, at: u32) -> Reading
     ensures { λ r. ⌜ said r ≡ first (figureRows at common (listed work span period)) (figures work span period) ⌝ }
 {
     if wrong_period(common, period) {

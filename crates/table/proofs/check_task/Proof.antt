@@ -19,7 +19,7 @@ use Rattle.table.proofs.check_task.Tie as tie
 abbrev Inv-loop : tie.InvT-loop
 Inv-loop block common task at got modes j₀ j =
     (said got ≡ taskSaid block)
-    × (first (wholeTaskRows common task at block) (taskSaid block) ≡ first (modesRows at common (figuresFrom block j (modes - j))) (taskSaid block))
+    × (first (wholeTaskRows common task at block) (taskSaid block) ≡ first (modesRows at common (figuresFrom (figuresIn block) j (modes - j))) (taskSaid block))
 
 abbrev μ-loop : tie.MeasureT-loop
 μ-loop block common task at got modes j₀ j = modes - j
@@ -51,7 +51,7 @@ loop-holds c =
     let n : g .0 .1 .0 - 0 ≡ modesIn block = sub-zero (g .0 .1 .0) ∙ cc in (
       same,
       whole-first (a .common) (a .task) (a .at) block S ∙ went-on reading (2 ∷ []) (r .result) rows S tt key (r .ensures) _
-          ∙ ap (λ (k : ℕ). first (modesRows (a .at) (a .common) (figuresFrom block 0 k)) S) (sym n),
+          ∙ ap (λ (k : ℕ). first (modesRows (a .at) (a .common) (figuresFrom (figuresIn block) 0 k)) S) (sym n),
     )
 
 read-mode-requires : tie.Need-read-mode-requires Inv-loop μ-loop
@@ -69,7 +69,7 @@ returns-2 c =
     let r = c .before .read-mode in
     stopped reading (0 ∷ 1 ∷ 2 ∷ []) (r .result) (figureRows (a .at) (a .common) (figuresIn block j)) (figuresSaid (figuresIn block j)) _ tt
     (c .match2 .keys2) (r .ensures)
-    ∙ sym (modes-more block (a .at) (a .common) j _ S (c .before .before .loop-test .taken))
+    ∙ sym (modes-more (figuresIn block) (a .at) (a .common) j _ S (c .before .before .loop-test .taken))
     ∙ sym (c .before .before .before .loop .inv .1)
 
 add-j : tie.Need-add-j Inv-loop μ-loop
@@ -86,7 +86,7 @@ loop-again c =
     let l = c .before .before .before .before .loop in
     let r = c .before .before .read-mode in (
       l .inv .0,
-      l .inv .1 ∙ modes-more block (a .at) (a .common) (l .j) _ S (c .before .before .before .loop-test .taken)
+      l .inv .1 ∙ modes-more (figuresIn block) (a .at) (a .common) (l .j) _ S (c .before .before .before .loop-test .taken)
           ∙ went-on reading (3 ∷ []) (r .result) (figureRows (a .at) (a .common) (figuresIn block (l .j))) (figuresSaid (figuresIn block (l .j))) tt
           (c .before .match2 .keys1) (r .ensures) _,
     )
@@ -95,7 +95,7 @@ returns-3 : tie.Need-returns-3 Inv-loop μ-loop
 returns-3 c =
     let a = c .before .before .before .before .before .before .before .args in
     let l = c .before .loop in
-    l .inv .0 ∙ sym (l .inv .1 ∙ modes-end (a .block .now) (a .at) (a .common) (l .j) _ _ (c .loop-test .left))
+    l .inv .0 ∙ sym (l .inv .1 ∙ modes-end (figuresIn (a .block .now)) (a .at) (a .common) (l .j) _ _ (c .loop-test .left))
 
 pub check-task-spec : {M : Type 1} → statement M
 check-task-spec =

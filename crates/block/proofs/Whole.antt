@@ -1,0 +1,79 @@
+-- A whole block: its length, its check and its unused bytes; what was sealed is read back, and what was read is sealed as it stood.
+-- Assumes nothing.
+use Prim.Native.Nat.{ℕ, zero, suc, _+_, _-_, _*_, _^_, _≤_, _<_}
+use native.Mathlib.Omega.{arith}
+use mathlib.Core.Path.{_≡_, refl, ap, sym, _∙_}
+use mathlib.Core.Bool.{true, _&&_}
+use mathlib.Core.List.{List, [], _∷_, _++_, append-assoc}
+use lib.Dec.{eqb}
+use lib.ListN.{length, take, drop, getD, replicate, length-append, length-take, length-drop, length-replicate, take-append-drop}
+use lib.Seq.{take-at, drop-at, length-take-le, take-take, take-all}
+use borrow.Author.Tests.{eqb-true}
+use Rattle.answer.proofs.Bools.{and-true}
+use Rattle.block.specs.Bytes.{Bytes, number, asBytes, laid, checkOf, allZero, zeros}
+use Rattle.block.specs.Whole.{body, sealed}
+use Rattle.block.proofs.Checks.{weighed-front, check-most}
+use Rattle.block.proofs.Laid.{length-bytes, value-bytes, bytes-number, bytes-padded, Fit, fields, back}
+
+-- ---- what was sealed
+all-zero : (n : ℕ) → allZero (replicate n 0) ≡ true
+unfolding allZero
+all-zero zero = refl
+all-zero (suc n) = all-zero n
+
+module _ (s : List ℕ) (h : length s ≤ 508) where
+  pub length-body : length (body s) ≡ 508
+  unfolding body
+  length-body = simp (length-append, length-replicate) (omega arith)
+
+  pub length-sealed : length (sealed s) ≡ 512
+  unfolding sealed
+  length-sealed = simp (length-append, length-bytes, length-body)
+
+  -- the check sees the body only
+  pub check-front : (t : List ℕ) → checkOf (body s ++ t) ≡ checkOf (body s)
+  unfolding checkOf
+  check-front t = weighed-front 508 (body s) t (omega (arith, length-body))
+
+  pub sealed-zeros : zeros (length s) 508 (sealed s) ≡ true
+  unfolding zeros sealed body
+  sealed-zeros = rw (take-at (body s) _ 508 length-body, drop-at s _ (length s) refl) (all-zero (508 - length s))
+
+  pub sealed-check : Bytes s → checkOf (sealed s) ≡ number 4 508 (sealed s)
+  unfolding number sealed body
+  sealed-check b =
+      let small : checkOf (body s) < 256 ^ 4 = omega (arith, check-most (body s) (bytes-padded s (508 - length s) b)) in
+      let t = asBytes 4 (checkOf (body s)) in
+      let l : length t ≡ 4 = length-bytes 4 (checkOf (body s)) in
+      sym (rw (drop-at (body s) t 508 length-body, take-all 4 t (omega arith), value-bytes 4 (checkOf (body s)) small) (sym (check-front t)))
+
+pub sealed-fields : (ws xs : List ℕ) → Fit ws xs → fields ws 0 (sealed (laid ws xs)) ≡ xs
+unfolding sealed body
+sealed-fields ws xs f = rw append-assoc (back ws xs f [] _ 0 refl)
+
+-- ---- what was read
+zero-all : (l : List ℕ) → allZero l ≡ true → l ≡ replicate (length l) 0
+unfolding allZero
+zero-all [] e = refl
+zero-all (b ∷ l) e =
+    let p = and-true (eqb b 0) (allZero l) e in
+    rw (eqb-true b 0 (p .0)) (ap (λ (t : List ℕ). 0 ∷ t) (zero-all l (p .1)))
+
+module _ (s : List ℕ) (from : ℕ) (l : length s ≡ 512) (h : from ≤ 508) where
+  padded : zeros from 508 s ≡ true → body (take from s) ≡ take 508 s
+  unfolding body zeros
+  padded z =
+      let n : length (take from s) ≡ from = length-take-le from s (omega arith) in
+      let m : length (drop from (take 508 s)) ≡ 508 - from = simp (length-drop, length-take) (omega arith) in
+      let far : drop from (take 508 s) ≡ replicate (508 - from) 0 = rw m at (zero-all (drop from (take 508 s)) z) in
+      rw (n, ← far, ← take-take from 508 s h) (take-append-drop from (take 508 s))
+
+  check-taken : checkOf (take 508 s) ≡ checkOf s
+  unfolding checkOf
+  check-taken = sym (rw take-append-drop at (weighed-front 508 (take 508 s) (drop 508 s) (simp length-take (omega arith))))
+
+  pub resealed : Bytes s → checkOf s ≡ number 4 508 s → zeros from 508 s ≡ true → sealed (take from s) ≡ s
+  unfolding sealed
+  resealed b c z =
+      let end : length (drop 508 s) ≡ 4 = simp length-drop (omega arith) in
+      rw (padded z, check-taken, c, bytes-number 4 508 s b (omega arith), take-all 4 (drop 508 s) (omega arith)) (take-append-drop 508 s)

@@ -1,0 +1,27 @@
+-- The numbers of a table, as asking gives them: of each task below the count, and of each of its modes below theirs.
+use Prim.Native.Nat.{ℕ}
+use mathlib.Core.List.{List}
+use Rattle.block.specs.Layout.{tasksIn, coresIn, commonIn, elasticityIn, modesIn, permittedIn, Figures, figuresIn}
+use Rattle.table.specs.Order.{headerBlock, taskBlock}
+
+pub record TaskNumbers : Type 0 where
+  pub elasticity : ℕ
+  pub modes : ℕ
+  pub permitted : ℕ
+  pub figures : ℕ → Figures
+
+pub record Numbers : Type 0 where
+  pub tasks : ℕ
+  pub cores : ℕ
+  pub common : ℕ
+  pub task : ℕ → TaskNumbers
+
+-- those that bytes hold
+abbrev pub taskNumbersIn : List ℕ → TaskNumbers
+taskNumbersIn block =
+    record { elasticity = elasticityIn block; modes = modesIn block; permitted = permittedIn block; figures = figuresIn block }
+
+abbrev pub numbersIn : List ℕ → Numbers
+numbersIn bytes =
+    let block = headerBlock bytes in
+    record { tasks = tasksIn block; cores = coresIn block; common = commonIn block; task = λ i. taskNumbersIn (taskBlock bytes i) }
