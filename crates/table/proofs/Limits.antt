@@ -16,7 +16,7 @@ use Rattle.table.specs.Numbers.{TaskNumbers}
 use Rattle.table.specs.Lawful.{LawfulHeader, LawfulTask, LawfulFigures}
 
 -- ---- from tests to facts
-inside : (low high x : ℕ) → outside low high x ≡ false → (low ≤ x) × (x ≤ high)
+pub inside : (low high x : ℕ) → outside low high x ≡ false → (low ≤ x) × (x ≤ high)
 inside low high x e = let r = or-false (ltb x low) (ltb high x) e in (ltb-false x low (r .0), ltb-false high x (r .1))
 
 positive : (x : ℕ) → eqb x 0 ≡ false → 1 ≤ x

@@ -1,0 +1,53 @@
+-- `Written` as an enum of answers: what is said of one is the whole of it; and one answer after another. Assumes nothing.
+use Prim.Native.Nat.{ℕ, zero, suc}
+use native.Mathlib.Omega.{arith}
+use mathlib.Core.Path.{_≡_, refl, sym, ap, _∙_}
+use mathlib.Core.List.{List, _++_}
+use denote.Enum.Declared.{tagOf}
+use Rattle.answer.specs.Said.{Said, refused, header, task, figures, needs, filled, plan, written}
+use Rattle.answer.specs.Order.{Row, first}
+use Rattle.answer.proofs.Rows.{kind, stop, first-none, none-first, first-append}
+use Rattle.answer.proofs.Elses.{Tells}
+use Rattle.writer.specs.declared.Written.{Written}
+use Rattle.writer.specs.declared.Written.the-variants.{Refused, Done}
+use Rattle.writer.specs.Said.{said, inTurn}
+use Rattle.writer.proofs.Written.{the-type}
+
+abbrev pub tag : Written → ℕ
+tag r = tagOf the-type r
+
+-- the kind that a tag says
+abbrev pub says : ℕ → ℕ
+says zero = 0
+says (suc k) = 7
+
+pub told : (r : Written) → kind (said r) ≡ says (tag r)
+told (Refused x) = refl
+told Done = refl
+
+abbrev pub writing : Tells Written
+writing = record { said = said; tag = tag; says = says; told = told }
+
+-- the answer that says it; what no writer says is given to a refusal
+abbrev unsaid : Said → Written
+unsaid (refused n k) = Refused (record { number = n; at = k })
+unsaid (header n m H) = Refused (record { number = 0; at = 0 })
+unsaid (task E k p) = Refused (record { number = 0; at = 0 })
+unsaid (figures C L T) = Refused (record { number = 0; at = 0 })
+unsaid (needs k) = Refused (record { number = 0; at = 0 })
+unsaid (filled p) = Refused (record { number = 0; at = 0 })
+unsaid (plan u v) = Refused (record { number = 0; at = 0 })
+unsaid written = Done
+
+back : (r : Written) → unsaid (said r) ≡ r
+back (Refused r) = refl
+back Done = refl
+
+pub one-answer : {s : Said} (x y : Written) → said x ≡ s → said y ≡ s → x ≡ y
+one-answer x y p q = sym (back x) ∙ ap unsaid (p ∙ sym q) ∙ back y
+
+-- one answer's rows, then the next one's
+pub rows-in-turn : (A B : List Row) (a b : Written) → said a ≡ first A written → said b ≡ first B written → said (inTurn a b) ≡ first (A ++ B) written
+rows-in-turn A B (Refused r) b p q = stop A written (first B written) (λ e. omega (arith, e)) p ∙ sym (first-append A B written)
+rows-in-turn A B Done b p q =
+    q ∙ sym (first-append A B written ∙ none-first A (first B written) (first-none A written (λ e. omega (arith, e)) p))

@@ -1,0 +1,4 @@
+pub mod Puts
+pub mod Filled
+pub mod Answers
+pub mod Settled

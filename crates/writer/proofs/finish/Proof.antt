@@ -1,0 +1,33 @@
+-- `writer::finish` meets its contract. Assumes nothing.
+use mathlib.Core.Path.{_≡_, refl, sym, _∙_}
+use lib.ListN.{length, take, drop, replicate}
+use Rattle.writer.proofs.Filled.{closed}
+use borrow.Author.Needs.{needs}
+use Rattle.writer.proofs.finish.Statement.{statement}
+use Rattle.writer.proofs.finish.Tie as tie
+use Rattle.writer.proofs.finish.Reads as reads
+use Rattle.writer.proofs.finish.Lts as lts
+use Rattle.writer.proofs.clear.Reads as clear-reads
+use Rattle.writer.proofs.put32.Reads as put32-reads
+
+clear-requires : tie.Need-clear-requires
+clear-requires c κs = search needs
+
+check-of-requires : tie.Need-check-of-requires
+check-of-requires c κs = search needs
+
+put32-requires : tie.Need-put32-requires
+put32-requires c κs = search needs
+
+same-length : tie.Need-same-length
+same-length c = search needs
+
+returns : tie.Need-returns
+returns c =
+    let s = c .before .before .before .before .before .before .before .before .before .before .before in
+    let z = closed (s .args .out .now) (s .args .from) (s .pre .0) (s .pre .1) in
+    cc z
+
+pub finish-spec : {M : Type 1} → statement M
+finish-spec =
+    tie.close (tie.spec clear-requires check-of-requires put32-requires same-length returns)

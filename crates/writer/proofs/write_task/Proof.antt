@@ -1,0 +1,155 @@
+-- `writer::write_task` meets its contract. Assumes nothing.
+use mathlib.Core.Path.{_≡_, refl, sym, ap, _∙_}
+use mathlib.Core.Bool.{not}
+use mathlib.Core.List.{List, [], _∷_, _++_}
+use Prim.Native.Nat.{ℕ, _*_}
+use lib.Dec.{eqb}
+use lib.ListN.{length, drop}
+use borrow.Author.Tests.{ltb-false}
+use Rattle.answer.specs.Said.{written}
+use Rattle.answer.specs.Order.{Row, first, left, NoneGiven}
+use Rattle.answer.proofs.Bools.{or-false}
+use Rattle.answer.proofs.Rows.{none-append, append-none}
+use Rattle.answer.proofs.Elses.{kept, passed}
+use Rattle.answer.proofs.Outcomes.{goes, joined}
+use Rattle.block.specs.Layout.{threes}
+use Rattle.block.specs.Tests.{outside, wrongShape, modesRows}
+use Rattle.block.specs.Whole.{taskBytes}
+use Rattle.table.proofs.Limits.{inside, is}
+use Rattle.writer.specs.Said.{said}
+use Rattle.writer.specs.Order.{numberRows, roomRows, writeTaskRows}
+use Rattle.writer.proofs.Answers.{writing, rows-in-turn}
+use borrow.Author.Needs.{needs}
+use Rattle.writer.proofs.write_task.Statement.{statement}
+use Rattle.writer.proofs.write_task.Tie as tie
+
+-- the rows of the numbers, those behind them, and the buffer where none is given
+abbrev of-numbers : tie.Start → List Row
+of-numbers s =
+    let a = s .args in
+    numberRows (a .common) (a .number) (a .elasticity) (a .modes) (a .permitted) (length (a .figures .now))
+
+abbrev of-modes : tie.Start → List Row
+of-modes s = modesRows 0 (s .args .common) (threes (s .args .figures .now))
+
+abbrev of-room : tie.Start → List Row
+of-room s = roomRows (length (s .args .out .now))
+
+abbrev filled : tie.Start → List ℕ
+filled s =
+    let a = s .args in
+    taskBytes (a .number) (a .elasticity) (a .modes) (a .permitted) (a .figures .now) ++ drop 512 (a .out .now)
+
+test-numbers-requires : tie.Need-test-numbers-requires
+test-numbers-requires c κs = search needs
+
+enum-told : tie.Need-enum-told
+enum-told c = search needs
+
+enum-told-2 : tie.Need-enum-told-2
+enum-told-2 c = search needs
+
+returns : tie.Need-returns
+unfolding writeTaskRows
+returns c =
+    let d = c .before .before in
+    let s = d .before .before .before in
+    let before = s .args .out .now in
+    let behind = of-modes s ++ of-room s in
+    joined (of-numbers s) behind written before (filled s)
+    (kept writing (0 ∷ []) (d .test-numbers .result) (of-numbers s) written (first behind written) before (left behind before (filled s)) tt
+    (c .before .match .keys2) (d .test-numbers .ensures))
+
+-- behind good numbers none of their rows is given
+numbers-none : (c : tie.At-match-keys1) → NoneGiven (of-numbers (c .before .before .before .before))
+numbers-none c =
+    let d = c .before in
+    passed writing (1 ∷ []) (d .test-numbers .result) (of-numbers (d .before .before .before)) written tt (c .match .keys1) (d .test-numbers .ensures)
+
+test-modes-requires : tie.Need-test-modes-requires
+test-modes-requires c κs = search needs
+
+test-room-requires : tie.Need-test-room-requires
+test-room-requires c κs = search needs
+
+in-turn-requires : tie.Need-in-turn-requires
+in-turn-requires c κs = search needs
+
+-- the answer is by the rows behind those
+answer : (c : tie.After-in-turn)
+    → let s = c .before .before .before .before .before .before .before .before in
+    said (c .in-turn .result) ≡ first (of-modes s ++ of-room s) written
+answer c =
+    let s = c .before .before .before .before .before .before .before .before in
+    ap said (c .in-turn .ensures)
+    ∙ rows-in-turn (of-modes s) (of-room s) (c .before .before .test-modes .result) (c .before .test-room .result)
+    (c .before .before .test-modes .ensures) (c .before .test-room .ensures)
+
+enum-told-3 : tie.Need-enum-told-3
+enum-told-3 c = search needs
+
+enum-told-4 : tie.Need-enum-told-4
+enum-told-4 c = search needs
+
+returns-2 : tie.Need-returns-2
+unfolding writeTaskRows
+returns-2 c =
+    let d = c .before .before in
+    let k = d .before .before .before .before in
+    let s = k .before .before .before .before in
+    let before = s .args .out .now in
+    let behind = of-modes s ++ of-room s in
+    let o = kept writing (0 ∷ []) (d .in-turn .result) behind written written before (filled s) tt (c .before .match2 .keys2) (answer d) in
+    joined (of-numbers s) behind written before (filled s)
+    (goes (of-numbers s) (first behind written) before (left behind before (filled s)) (numbers-none k) (o .says) (o .leaves))
+
+-- behind a good answer none of all the rows is given
+none : (c : tie.At-match2-keys1)
+    → let s = c .before .before .before .before .before .before .before .before .before in
+    NoneGiven (of-numbers s) × NoneGiven (of-modes s ++ of-room s)
+none c =
+    let d = c .before in
+    let k = d .before .before .before .before in
+    let s = k .before .before .before .before in
+    (numbers-none k, passed writing (1 ∷ []) (d .in-turn .result) (of-modes s ++ of-room s) written tt (c .match2 .keys1) (answer d))
+
+fill-task-requires : tie.Need-fill-task-requires
+fill-task-requires c κs =
+    let k = c .before .before in
+    let s = k .before .before .before .before .before .before .before .before .before in
+    let a = s .args in
+    let nine = or-false (wrongShape (a .elasticity) (a .modes)) (not (eqb (length (a .figures .now)) (3 * a .modes))) (none k .0 .1 .1 .0) in
+    let shape = or-false (outside 1 10 (a .elasticity)) (outside 1 16 (a .modes)) (nine .0) in
+    let room = none-append (of-modes s) (of-room s) (none k .1) .1 in
+    (ltb-false _ _ (room .0), inside 1 16 (a .modes) (shape .1) .1, is (length (a .figures .now)) (3 * a .modes) (nine .1))
+
+same-length : tie.Need-same-length
+same-length c = search needs
+
+returns-3 : tie.Need-returns-3
+unfolding writeTaskRows
+returns-3 c =
+    let f = c .before .before in
+    let k = f .before .before .before in
+    let s = k .before .before .before .before .before .before .before .before .before in
+    let behind = of-modes s ++ of-room s in
+    goes (of-numbers s ++ behind) written (s .args .out .now) (filled s) (append-none (of-numbers s) behind (none k .0) (none k .1)) refl
+    (f .fill-task .ensures)
+
+pub write-task-spec : {M : Type 1} → statement M
+write-task-spec =
+    tie.close
+    (tie.spec
+    test-numbers-requires
+    enum-told
+    enum-told-2
+    returns
+    test-modes-requires
+    test-room-requires
+    in-turn-requires
+    enum-told-3
+    enum-told-4
+    returns-2
+    fill-task-requires
+    same-length
+    returns-3)

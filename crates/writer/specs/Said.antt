@@ -1,0 +1,13 @@
+-- The document's number for each case of `Written`.
+use Rattle.answer.specs.Said.{Said, refused, written}
+use Rattle.writer.specs.declared.Written.{Written}
+use Rattle.writer.specs.declared.Written.the-variants.{Refused, Done}
+
+abbrev pub said : Written → Said
+said (Refused r) = refused (r .number) (r .at)
+said Done = written
+
+-- one answer, and where it is no refusal the next
+abbrev pub inTurn : Written → Written → Written
+inTurn (Refused r) next = Refused r
+inTurn Done next = next
