@@ -6,7 +6,7 @@ use mathlib.Core.Bool.{true, false}
 use Rattle.answer.specs.Said.{Said}
 use Rattle.answer.specs.Order.{Row, row, first, left, Outcome, NoneGiven}
 use Rattle.answer.proofs.Bools.{clash}
-use Rattle.answer.proofs.Rows.{kind, first-append, none-first, stop}
+use Rattle.answer.proofs.Rows.{kind, first-append, none-first, stop, first-none}
 
 module _ (before after : List ℕ) where
   left-append : (A B : List Row) → left (A ++ B) before after ≡ left A before (left B before after)
@@ -37,3 +37,10 @@ pub joined : (A B : List Row) {s : Said} {e : List ℕ} (rest : Said) (before af
     → Outcome A (first B rest) before (left B before after) s e → Outcome (A ++ B) rest before after s e
 joined A B rest before after o =
     record { says = o .says ∙ sym (first-append A B rest); leaves = o .leaves ∙ sym (left-append before after A B) }
+
+-- behind an answer that is no refusal no row was given, and the buffer is changed
+pub gone : (A : List Row) {s : Said} {e : List ℕ} (rest : Said) (before after : List ℕ) → (kind s ≡ 0 → ⊥) → Outcome A rest before after s e
+    → NoneGiven A × (e ≡ after)
+gone A rest before after ne o =
+    let p = first-none A rest ne (o .says) in
+    (p, o .leaves ∙ none-left before after A p)

@@ -1,16 +1,19 @@
 -- Laws of the modes in turn. Assumes nothing.
-use Prim.Native.Nat.{ℕ, suc, _+_, _-_, _≤_, _<_}
+use Prim.Native.Nat.{ℕ, zero, suc, _+_, _-_, _≤_, _<_}
+use native.Mathlib.Nat.{eq-or-lt-of-le}
 use native.Mathlib.Omega.{arith}
-use mathlib.Core.Path.{_≡_, refl, ap, _∙_}
+use mathlib.Core.Logic.{⊎-elim}
+use mathlib.Core.Path.{_≡_, refl, sym, ap, subst, _∙_}
 use mathlib.Core.List.{List, [], _∷_}
 use lib.ListN.{length, drop, getD, length-drop}
 use lib.Seq.{drop-cons}
 use Rattle.answer.specs.Said.{Said}
 use Rattle.answer.specs.Order.{first}
 use Rattle.answer.proofs.Rows.{first-append}
-use Rattle.block.specs.Layout.{Figures, listed, figuresFrom, threes}
+use Rattle.block.specs.Layout.{Figures, listed, figuresFrom, flat, threes}
 use Rattle.block.specs.Tests.{figureRows, modesRows}
 
+-- ---- the order of refusals
 -- one mode, then the others
 one-first : (at H : ℕ) (f : Figures) (fs : List Figures) (s : Said)
     → first (modesRows at H (f ∷ fs)) s ≡ first (figureRows at H f) (first (modesRows at H fs) s)
@@ -30,6 +33,30 @@ module _ (figures : ℕ → Figures) (at H : ℕ) where
   pub modes-end : (j modes : ℕ) (s : Said) → modes ≤ j → first (modesRows at H (figuresFrom figures j (modes - j))) s ≡ s
   unfolding modesRows figuresFrom
   modes-end j modes s p = let e : modes - j ≡ 0 = omega arith in ap (λ (k : ℕ). first (modesRows at H (figuresFrom figures j k)) s) e
+
+-- ---- modes one by one, and in turn
+module _ (f g : ℕ → Figures) where
+  pub each-same : (j left : ℕ) → ((k : ℕ) → j ≤ k → k < j + left → f k ≡ g k) → figuresFrom f j left ≡ figuresFrom g j left
+  unfolding figuresFrom
+  each-same j zero e = refl
+  each-same j (suc left) e = rw (e j (omega arith) (omega arith), each-same (j + 1) left (λ k low high. e k (omega arith) (omega arith)))
+
+  pub same-each : (j left : ℕ) → figuresFrom f j left ≡ figuresFrom g j left → (k : ℕ) → j ≤ k → k < j + left → f k ≡ g k
+  unfolding figuresFrom
+  same-each j zero e k low high = absurd (omega arith)
+  same-each j (suc left) e k low high =
+      ⊎-elim (λ same. subst (λ (x : ℕ). f x ≡ g x) same (ap (λ (l : List Figures). getD l 0 (f j)) e))
+      (λ more. same-each (j + 1) left (ap (drop 1) e) k (omega arith) (omega arith))
+      (eq-or-lt-of-le low)
+
+-- ---- lent, three numbers for each mode
+pub threes-flat : (fs : List Figures) → threes (flat fs) ≡ fs
+unfolding threes flat
+threes-flat [] = refl
+threes-flat (f ∷ fs) = ap (λ (l : List Figures). f ∷ l) (threes-flat fs)
+
+pub flat-same : (a b : List Figures) → flat a ≡ flat b → a ≡ b
+flat-same a b e = sym (threes-flat a) ∙ ap threes e ∙ threes-flat b
 
 -- the same of figures that are lent, three numbers for each mode
 module _ (lent : List ℕ) (at H : ℕ) where

@@ -25,11 +25,9 @@ use Rattle.block.specs.Layout.{
   taskNumberIn,
   taskUnused,
   Figures,
-  listed,
   figuresIn,
   figuresFrom,
   flat,
-  threes,
 }
 use Rattle.block.specs.Whole.{sealed, headerWidths, headerBytes, taskWidths, taskBytes}
 use Rattle.block.proofs.Laid.{Fit, total, length-laid, bytes-laid, fields, again}
@@ -131,11 +129,6 @@ fields-flat (suc left) j s =
     let period : 12 + 12 * j + 4 ≡ 16 + 12 * j = omega arith in
     let next : 16 + 12 * j + 4 ≡ 8 + 12 * (j + 1) = omega arith in
     rw (three, span, period, next, fields-flat left (j + 1) s)
-
-pub threes-flat : (fs : List Figures) → threes (flat fs) ≡ fs
-unfolding threes flat
-threes-flat [] = refl
-threes-flat (f ∷ fs) = ap (λ (l : List Figures). f ∷ l) (threes-flat fs)
 
 pub record HoldsTask (num E modes permitted : ℕ) (figures block : List ℕ) : Type 0 where
   pub long : length block ≡ 512

@@ -49,18 +49,18 @@ module _ (bytes : List ℕ) where
       (λ more. tasks-none H left (i + 1) (r .1) k (omega arith) (omega arith))
       (eq-or-lt-of-le low)
 
-  front-none : NoneGiven (frontRows bytes) → NoneGiven (headerRows (headerBlock bytes)) × (length bytes ≡ 512 * (tasksIn (headerBlock bytes) + 1))
+  pub front-none : NoneGiven (frontRows bytes) → NoneGiven (headerRows (headerBlock bytes)) × (length bytes ≡ 512 * (tasksIn (headerBlock bytes) + 1))
   unfolding frontRows
   front-none p =
       let r = none-append (headerRows (headerBlock bytes)) (row 7 0 (otherLength bytes (tasksIn (headerBlock bytes))) ∷ []) (p .1) in
       (r .0, is (length bytes) (512 * (tasksIn (headerBlock bytes) + 1)) (r .1 .0))
 
-  table-none : NoneGiven (tableRows bytes)
+  pub table-none : NoneGiven (tableRows bytes)
       → NoneGiven (frontRows bytes) × NoneGiven (tasksRows bytes (commonIn (headerBlock bytes)) 0 (tasksIn (headerBlock bytes)))
   unfolding tableRows
   table-none p = none-append (frontRows bytes) (tasksRows bytes (commonIn (headerBlock bytes)) 0 (tasksIn (headerBlock bytes))) p
 
-  task-none : NoneGiven (tableRows bytes) → (i : ℕ) → i < tasksIn (headerBlock bytes)
+  pub task-none : NoneGiven (tableRows bytes) → (i : ℕ) → i < tasksIn (headerBlock bytes)
       → NoneGiven (taskRows i (i + 1) (taskBlock bytes i)) × NoneGiven
       (modesRows (i + 1) (commonIn (headerBlock bytes)) (figuresFrom (figuresIn (taskBlock bytes i)) 0 (modesIn (taskBlock bytes i))))
   task-none p i h =

@@ -4,7 +4,7 @@ use native.Mathlib.Omega.{arith}
 use mathlib.Core.Path.{_≡_, sym, _∙_}
 use mathlib.Core.List.{List}
 use lib.ListN.{length, take, drop, length-drop, drop-of-length-le}
-use lib.Seq.{take-nil, take-all}
+use lib.Seq.{take-nil, take-all, length-take-le}
 use Rattle.block.specs.Bytes.{Bytes}
 use Rattle.block.proofs.Laid.{bytes-take, bytes-drop}
 use Rattle.table.specs.Order.{blockAt}
@@ -30,3 +30,8 @@ module _ (s : List ℕ) (start : ℕ) where
 pub bytes-block : (k : ℕ) (bytes : List ℕ) → Bytes bytes → Bytes (blockAt k bytes)
 unfolding blockAt
 bytes-block k bytes b = bytes-take 512 (drop (512 * k) bytes) (bytes-drop (512 * k) bytes b)
+
+-- each of n + 1 blocks has 512 bytes
+pub length-block : (k n : ℕ) (bytes : List ℕ) → length bytes ≡ 512 * (n + 1) → k ≤ n → length (blockAt k bytes) ≡ 512
+unfolding blockAt
+length-block k n bytes e h = length-take-le 512 (drop (512 * k) bytes) (rw length-drop (omega arith))

@@ -1,7 +1,7 @@
 -- The numbers of a table, as asking gives them: of each task below the count, and of each of its modes below theirs.
 use Prim.Native.Nat.{ℕ}
 use mathlib.Core.List.{List}
-use Rattle.block.specs.Layout.{tasksIn, coresIn, commonIn, elasticityIn, modesIn, permittedIn, Figures, figuresIn}
+use Rattle.block.specs.Layout.{tasksIn, coresIn, commonIn, elasticityIn, modesIn, permittedIn, Figures, figuresIn, figuresFrom, flat}
 use Rattle.table.specs.Order.{headerBlock, taskBlock}
 
 pub record TaskNumbers : Type 0 where
@@ -9,6 +9,10 @@ pub record TaskNumbers : Type 0 where
   pub modes : ℕ
   pub permitted : ℕ
   pub figures : ℕ → Figures
+
+-- its figures, three numbers for each mode in turn, as they are lent to the writer
+abbrev pub figuresOf : TaskNumbers → List ℕ
+figuresOf t = flat (figuresFrom (t .figures) 0 (t .modes))
 
 pub record Numbers : Type 0 where
   pub tasks : ℕ

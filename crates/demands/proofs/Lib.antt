@@ -1,0 +1,3 @@
+pub mod Blocks
+pub mod Writers
+pub mod Demand2

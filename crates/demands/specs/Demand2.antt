@@ -1,0 +1,57 @@
+-- Demand 2: "Every lawful table is accepted. Written and read back it gives the same numbers; read and rewritten, the same bytes."
+use Prim.Native.Nat.{ℕ, _+_, _*_, _≤_, _<_}
+use mathlib.Core.Path.{_≡_}
+use mathlib.Core.List.{List, _++_}
+use lib.ListN.{length, drop}
+use Rattle.answer.specs.Said.{header, task, figures}
+use Rattle.block.specs.Bytes.{Bytes}
+use Rattle.table.specs.Order.{headerBlock, taskBlock, tableSaid, askTaskSaid, askModeSaid}
+use Rattle.table.specs.Numbers.{TaskNumbers, figuresOf, Numbers}
+use Rattle.table.specs.Lawful.{Lawful}
+use Rattle.writer.specs.declared.Written.the-variants.{Done}
+use Rattle.writer.specs.Order.{WroteHeader, WroteTask}
+
+-- ---- reading: what `check`, `ask_task` and `ask_mode` answer of these bytes are these numbers
+pub record ReadsAs (bytes : List ℕ) (t : Numbers) : Type 0 where
+  pub front : tableSaid bytes ≡ header (t .tasks) (t .cores) (t .common)
+  pub each-task : (i : ℕ) → i < t .tasks → askTaskSaid bytes i ≡ task (t .task i .elasticity) (t .task i .modes) (t .task i .permitted)
+  pub each-mode : (i j : ℕ) → i < t .tasks → j < t .task i .modes
+      → askModeSaid bytes i j ≡ figures (t .task i .figures j .work) (t .task i .figures j .span) (t .task i .figures j .period)
+
+-- ---- writing: of any buffer with room `write_header` answers Done and leaves this block at its front, and so does `write_task`
+abbrev pub HeaderWrites : ℕ → ℕ → ℕ → List ℕ → Type 0
+HeaderWrites n m H block = (buffer : List ℕ) → 512 ≤ length buffer → WroteHeader n m H buffer Done (block ++ drop 512 buffer)
+
+abbrev pub TaskWrites : ℕ → ℕ → TaskNumbers → List ℕ → Type 0
+TaskWrites H i t block =
+    (buffer : List ℕ) → 512 ≤ length buffer
+    → WroteTask H i (t .elasticity) (t .modes) (t .permitted) (figuresOf t) buffer Done (block ++ drop 512 buffer)
+
+-- these bytes are the blocks that the writers write of these numbers, one after another
+pub record WrittenAs (t : Numbers) (bytes : List ℕ) : Type 0 where
+  pub long : length bytes ≡ 512 * (t .tasks + 1)
+  pub front : HeaderWrites (t .tasks) (t .cores) (t .common) (headerBlock bytes)
+  pub each-task : (i : ℕ) → i < t .tasks → TaskWrites (t .common) i (t .task i) (taskBlock bytes i)
+
+-- ---- the demand
+-- every lawful table is accepted: the writers refuse none of its numbers, and `check` accepts the blocks that they write
+abbrev pub EveryLawfulTableIsAccepted : Type 0
+EveryLawfulTableIsAccepted =
+    (t : Numbers) → Lawful t
+    → (bytes : List ℕ) × WrittenAs t bytes × (tableSaid bytes ≡ header (t .tasks) (t .cores) (t .common))
+
+-- written and read back it gives the same numbers
+abbrev pub WrittenAndReadBack : Type 0
+WrittenAndReadBack = (t : Numbers) (bytes : List ℕ) → Lawful t → WrittenAs t bytes → ReadsAs bytes t
+
+-- accepted by `check`
+abbrev pub Accepted : List ℕ → Type 0
+Accepted bytes = (n : ℕ) × (m : ℕ) × (H : ℕ) × (tableSaid bytes ≡ header n m H)
+
+-- read and rewritten, the same bytes: an accepted table can be asked for all its numbers; of these the writers write each of its blocks
+-- again and refuse none, and no other bytes
+abbrev pub ReadAndRewritten : Type 0
+ReadAndRewritten =
+    (bytes : List ℕ) → Bytes bytes → Accepted bytes
+    → ((t : Numbers) × ReadsAs bytes t)
+    × ((t : Numbers) → ReadsAs bytes t → WrittenAs t bytes × ((other : List ℕ) → WrittenAs t other → other ≡ bytes))
