@@ -221,7 +221,7 @@ pub fn write_header(tasks: u16, cores: u16, common: u32, out: &mut [u8]) -> Writ
         return answer;
     };
     fill_header(tasks, cores, common, out);
-    Written::Done
+    answer
 }
 
 // Writes a task block into the first 512 bytes of a buffer.
@@ -242,10 +242,10 @@ pub fn write_task(
     };
     let tested = test_modes(common, figures);
     let room = test_room(out.len());
-    let answer = in_turn(tested, room);
-    let Written::Done = answer else {
-        return answer;
+    let last = in_turn(tested, room);
+    let Written::Done = last else {
+        return last;
     };
     fill_task(number, elasticity, modes, permitted, figures, out);
-    Written::Done
+    last
 }

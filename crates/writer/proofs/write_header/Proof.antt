@@ -1,11 +1,11 @@
 -- `writer::write_header` meets its contract. Assumes nothing.
-use mathlib.Core.Path.{_≡_, refl, sym, ap, _∙_}
+use mathlib.Core.Path.{_≡_, ap, _∙_}
 use mathlib.Core.List.{[], _∷_, _++_}
 use lib.ListN.{length, drop}
 use borrow.Author.Tests.{ltb-false}
 use Rattle.answer.specs.Said.{written}
 use Rattle.answer.specs.Order.{first, NoneGiven}
-use Rattle.answer.proofs.Elses.{kept, passed}
+use Rattle.answer.proofs.Elses.{kept, passed, answered}
 use Rattle.answer.proofs.Outcomes.{goes}
 use Rattle.block.specs.Whole.{headerBytes}
 use Rattle.writer.specs.Said.{said}
@@ -53,15 +53,18 @@ returns c =
 -- behind a good answer no row is given
 none : (c : tie.At-match-keys1)
     → let a = c .before .before .before .before .before .args in
-    NoneGiven (writeHeaderRows (a .tasks) (a .cores) (a .common) (length (a .out .now)))
+    NoneGiven (writeHeaderRows (a .tasks) (a .cores) (a .common) (length (a .out .now))) × (said (c .before .in-turn .result) ≡ written)
 none c =
     let d = c .before in
     let a = d .before .before .before .before .args in
-    passed writing (1 ∷ []) (d .in-turn .result) (writeHeaderRows (a .tasks) (a .cores) (a .common) (length (a .out .now))) written tt (c .match .keys1) (answer d)
+    let rows = writeHeaderRows (a .tasks) (a .cores) (a .common) (length (a .out .now)) in (
+      passed writing (1 ∷ []) (d .in-turn .result) rows written tt (c .match .keys1) (answer d),
+      answered writing (1 ∷ []) (d .in-turn .result) rows written tt (c .match .keys1) (answer d),
+    )
 
 fill-header-requires : tie.Need-fill-header-requires
 unfolding writeHeaderRows
-fill-header-requires c κs = ltb-false _ _ (none (c .before .before) .1 .0)
+fill-header-requires c κs = ltb-false _ _ (none (c .before .before) .0 .1 .0)
 
 same-length : tie.Need-same-length
 same-length c = search needs
@@ -72,7 +75,7 @@ returns-2 c =
     let d = f .before .before .before in
     let a = d .before .before .before .before .before .args in
     goes (writeHeaderRows (a .tasks) (a .cores) (a .common) (length (a .out .now))) written (a .out .now)
-    (headerBytes (a .tasks) (a .cores) (a .common) ++ drop 512 (a .out .now)) (none d) refl (f .fill-header .ensures)
+    (headerBytes (a .tasks) (a .cores) (a .common) ++ drop 512 (a .out .now)) (none d .0) (none d .1) (f .fill-header .ensures)
 
 pub write-header-spec : {M : Type 1} → statement M
 write-header-spec =

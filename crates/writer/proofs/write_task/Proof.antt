@@ -1,5 +1,5 @@
 -- `writer::write_task` meets its contract. Assumes nothing.
-use mathlib.Core.Path.{_≡_, refl, sym, ap, _∙_}
+use mathlib.Core.Path.{_≡_, ap, _∙_}
 use mathlib.Core.Bool.{not}
 use mathlib.Core.List.{List, [], _∷_, _++_}
 use Prim.Native.Nat.{ℕ, _*_}
@@ -10,7 +10,7 @@ use Rattle.answer.specs.Said.{written}
 use Rattle.answer.specs.Order.{Row, first, left, NoneGiven}
 use Rattle.answer.proofs.Bools.{or-false}
 use Rattle.answer.proofs.Rows.{none-append, append-none}
-use Rattle.answer.proofs.Elses.{kept, passed}
+use Rattle.answer.proofs.Elses.{kept, passed, answered}
 use Rattle.answer.proofs.Outcomes.{goes, joined}
 use Rattle.block.specs.Layout.{threes}
 use Rattle.block.specs.Tests.{outside, wrongShape, modesRows}
@@ -106,12 +106,16 @@ returns-2 c =
 -- behind a good answer none of all the rows is given
 none : (c : tie.At-match2-keys1)
     → let s = c .before .before .before .before .before .before .before .before .before in
-    NoneGiven (of-numbers s) × NoneGiven (of-modes s ++ of-room s)
+    NoneGiven (of-numbers s) × NoneGiven (of-modes s ++ of-room s) × (said (c .before .in-turn .result) ≡ written)
 none c =
     let d = c .before in
     let k = d .before .before .before .before in
     let s = k .before .before .before .before in
-    (numbers-none k, passed writing (1 ∷ []) (d .in-turn .result) (of-modes s ++ of-room s) written tt (c .match2 .keys1) (answer d))
+    let rows = of-modes s ++ of-room s in (
+      numbers-none k,
+      passed writing (1 ∷ []) (d .in-turn .result) rows written tt (c .match2 .keys1) (answer d),
+      answered writing (1 ∷ []) (d .in-turn .result) rows written tt (c .match2 .keys1) (answer d),
+    )
 
 fill-task-requires : tie.Need-fill-task-requires
 fill-task-requires c κs =
@@ -133,7 +137,7 @@ returns-3 c =
     let k = f .before .before .before in
     let s = k .before .before .before .before .before .before .before .before .before in
     let behind = of-modes s ++ of-room s in
-    goes (of-numbers s ++ behind) written (s .args .out .now) (filled s) (append-none (of-numbers s) behind (none k .0) (none k .1)) refl
+    goes (of-numbers s ++ behind) written (s .args .out .now) (filled s) (append-none (of-numbers s) behind (none k .0) (none k .1)) (none k .2)
     (f .fill-task .ensures)
 
 pub write-task-spec : {M : Type 1} → statement M
