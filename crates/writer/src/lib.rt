@@ -1,7 +1,7 @@
 // Writing the blocks of a table: the tests in the document's order, then the 512 bytes. Nothing is written before the last test.
 ghost use mathlib.Core.Path.{_≡_};
 ghost use mathlib.Core.Bool.{not, _||_};
-ghost use mathlib.Core.List.{_++_};
+ghost use mathlib.Core.List.{[], _∷_, _++_};
 ghost use Prim.Native.Nat.{_+_, _-_, _*_, _≤_};
 ghost use lib.Dec.{eqb};
 ghost use lib.ListN.{length, replicate, take, drop};
@@ -13,7 +13,7 @@ ghost use Rattle.block.specs.Tests.{wrongShape, modesRows};
 ghost use Rattle.block.specs.Whole.{sealed, headerBytes, taskBytes};
 ghost use Rattle.writer.specs.Said.{said, inTurn};
 ghost use Rattle.writer.specs.Order.{roomRows, limitRows, numberRows, WroteHeader, WroteTask};
-ghost use Rattle.writer.specs.Puts.{over};
+ghost use Rattle.writer.specs.Puts.{over, frontWidths};
 use answer::Refusal;
 use block::check_of;
 use block::wrong_common;
@@ -102,38 +102,41 @@ fn finish(out: &mut [u8], from: usize)
     put32(out, 508, check);
 }
 
+// The first 8 bytes of a block: two numbers of 8 bits and three of 16.
+fn put_front(out: &mut [u8], kind: u8, second: u8, third: u16, fourth: u16, fifth: u16)
+    requires { ⌜ 8 ≤ length (now out) ⌝ }
+    ensures { λ _. ⌜ now (out .exit) ≡ over (now (out .entry)) 0 (laid frontWidths (kind ∷ second ∷ third ∷ fourth ∷ fifth ∷ [])) ⌝ }
+{
+    put8(out, 0, kind);
+    put8(out, 1, second);
+    put16(out, 2, third);
+    put16(out, 4, fourth);
+    put16(out, 6, fifth);
+}
+
 // The header block, in the first 512 bytes of a buffer.
-fn fill_header(tasks: u16, cores: u16, common: u32, out: &mut [u8])
+fn fill_header(out: &mut [u8], tasks: u16, cores: u16, common: u32)
     requires { ⌜ 512 ≤ length (now out) ⌝ }
     ensures { λ _. ⌜ now (out .exit) ≡ headerBytes tasks cores common ++ drop 512 (now (out .entry)) ⌝ }
 {
-    put8(out, 0, 1);
-    put8(out, 1, 1);
-    put16(out, 2, tasks);
-    put16(out, 4, cores);
-    put16(out, 6, 0);
+    put_front(out, 1, 1, tasks, cores, 0);
     put32(out, 8, common);
     finish(out, 12);
 }
 
-// A task block, in the first 512 bytes of a buffer.
+// A task block, in the first 512 bytes of a buffer. The mode count and the zero byte behind it are one number of 16 bits.
 fn fill_task(
+    out: &mut [u8],
     number: u16,
     elasticity: u8,
     modes: u8,
     permitted: u16,
     figures: &[u32],
-    out: &mut [u8],
 )
     requires { ⌜ (512 ≤ length (now out)) × (modes ≤ 16) × (length (now figures) ≡ 3 * modes) ⌝ }
     ensures { λ _. ⌜ now (out .exit) ≡ taskBytes number elasticity modes permitted (now (figures .entry)) ++ drop 512 (now (out .entry)) ⌝ }
 {
-    put8(out, 0, 2);
-    put8(out, 1, elasticity);
-    put8(out, 2, modes);
-    put8(out, 3, 0);
-    put16(out, 4, permitted);
-    put16(out, 6, number);
+    put_front(out, 2, elasticity, modes as u16, permitted, number);
     put_all(out, 8, figures);
     finish(out, 8 + 12 * modes as usize);
 }
@@ -220,7 +223,7 @@ pub fn write_header(tasks: u16, cores: u16, common: u32, out: &mut [u8]) -> Writ
     let Written::Done = answer else {
         return answer;
     };
-    fill_header(tasks, cores, common, out);
+    fill_header(out, tasks, cores, common);
     answer
 }
 
@@ -246,6 +249,6 @@ pub fn write_task(
     let Written::Done = last else {
         return last;
     };
-    fill_task(number, elasticity, modes, permitted, figures, out);
+    fill_task(out, number, elasticity, modes, permitted, figures);
     last
 }
