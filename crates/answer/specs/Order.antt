@@ -15,14 +15,15 @@ first [] rest = rest
 first (row number at given ∷ rows) rest = cond given (refused number at) (first rows rest)
 
 -- what a lent buffer holds afterwards: what it held before where a row is given
-abbrev pub left : {A : Type 0} → List Row → A → A → A
-left [] before after = after
-left (row number at given ∷ rows) before after = cond given before (left rows before after)
+abbrev pub afterwards : {A : Type 0} → List Row → A → A → A
+afterwards [] before after = after
+afterwards (row number at given ∷ rows) before after = cond given before (afterwards rows before after)
 
--- the outcome of a call that may change a lent buffer: what it says, and what the buffer holds
+-- the outcome of a call that may change a lent buffer: s is said, and the buffer holds e. Where no row is given these are the rest and
+-- `after`; where one is, its refusal and what the buffer held before
 pub record Outcome (rows : List Row) (rest : Said) (before after : List ℕ) (s : Said) (e : List ℕ) : Type 0 where
   pub says : s ≡ first rows rest
-  pub leaves : e ≡ left rows before after
+  pub leaves : e ≡ afterwards rows before after
 
 -- no row is given
 abbrev pub NoneGiven : List Row → Type 0

@@ -4,7 +4,7 @@ use native.Mathlib.Nat.{pow-succ'}
 use native.Mathlib.Omega.{arith}
 use mathlib.Core.Path.{_≡_, refl, ap}
 use mathlib.Core.List.{List, [], _∷_, _++_, append-assoc}
-use lib.ListN.{length, take, drop, getD, replicate, length-append, length-take, length-drop}
+use lib.ListN.{length, take, drop, replicate, length-append, length-take, length-drop}
 use lib.Seq.{take-at, drop-at, take-add, drop-drop, getD-drop}
 use Rattle.block.specs.Bytes.{Bytes, value, number, asBytes, laid}
 

@@ -3,32 +3,15 @@ use Prim.Native.Nat.{ℕ, zero, suc, _+_, _-_, _*_, _^_, _≤_, _<_}
 use native.Mathlib.Nat.{zero-add, suc-add}
 use native.Mathlib.Omega.{arith}
 use mathlib.Core.Path.{_≡_, refl, ap, sym, _∙_}
-use mathlib.Core.Bool.{Bool, true, false, not, _&&_, _||_}
-use mathlib.Core.List.{List, [], _∷_, _++_}
+use mathlib.Core.Bool.{Bool, true, false, not, _||_}
+use mathlib.Core.List.{List, [], _∷_}
 use lib.Dec.{eqb}
 use lib.ListN.{length, take, drop, getD, replicate}
 use lib.Seq.{take-nil}
-use borrow.Author.Tests.{eqb-true, eq-eqb, not-false}
+use borrow.Author.Tests.{eqb-true, not-false}
 use Rattle.answer.proofs.Bools.{and-true, or-false}
 use Rattle.block.specs.Bytes.{Bytes, value, number, laid, checkOf, allZero, zeros}
-use Rattle.block.specs.Layout.{
-  kindIn,
-  checkIn,
-  editionIn,
-  tasksIn,
-  coresIn,
-  commonIn,
-  headerUnused,
-  elasticityIn,
-  modesIn,
-  permittedIn,
-  taskNumberIn,
-  taskUnused,
-  Figures,
-  figuresIn,
-  figuresFrom,
-  flat,
-}
+use Rattle.block.specs.Layout.{kindIn, checkIn, editionIn, tasksIn, coresIn, commonIn, headerUnused, elasticityIn, modesIn, permittedIn, taskNumberIn, taskUnused, figuresIn, figuresFrom, flat}
 use Rattle.block.specs.Whole.{sealed, headerWidths, headerBytes, taskWidths, taskBytes}
 use Rattle.block.proofs.Laid.{Fit, total, length-laid, bytes-laid, fields, again}
 use Rattle.block.proofs.Whole.{length-sealed, sealed-zeros, sealed-check, sealed-fields, resealed}

@@ -1,26 +1,24 @@
 -- Demand 2. Assumes nothing.
 use Prim.Native.Nat.{ℕ, zero, suc, _+_, _-_, _*_, _≤_, _<_}
-use native.Mathlib.Nat.{zero-add}
-use native.Mathlib.Numerals.{add-one}
 use native.Mathlib.Omega.{arith}
-use mathlib.Core.Path.{_≡_, refl, sym, ap, subst, _∙_}
+use mathlib.Core.Path.{_≡_, sym, ap, subst, _∙_}
 use mathlib.Core.List.{List}
 use lib.ListN.{length}
 use Rattle.answer.specs.Said.{header, task, figures}
 use Rattle.answer.specs.Order.{NoneGiven}
 use Rattle.answer.proofs.Rows.{first-none}
 use Rattle.block.specs.Bytes.{Bytes}
-use Rattle.block.specs.Layout.{tasksIn, coresIn, commonIn, elasticityIn, modesIn, permittedIn, figuresIn, figuresFrom, flat}
-use Rattle.block.specs.Whole.{headerBytes, taskBytes}
+use Rattle.block.specs.Layout.{elasticityIn, modesIn, permittedIn, figuresIn, figuresFrom, flat}
+use Rattle.block.specs.Whole.{headerBytes}
 use Rattle.block.proofs.Figures.{each-same, same-each, flat-same}
 use Rattle.block.proofs.Round.{HoldsHeader, header-again, HoldsTask, task-again}
-use Rattle.table.specs.Order.{blockAt, headerBlock, taskBlock, headerSaid, taskSaid, figuresSaid, tableRows, tableSaid}
-use Rattle.table.specs.Numbers.{TaskNumbers, figuresOf, Numbers, numbersIn}
+use Rattle.table.specs.Order.{blockAt, headerBlock, taskBlock, headerSaid, taskSaid, figuresSaid, tableRows}
+use Rattle.table.specs.Numbers.{figuresOf, Numbers, numbersIn}
 use Rattle.table.specs.Lawful.{Lawful}
 use Rattle.table.proofs.Blocks.{bytes-block}
 use Rattle.table.proofs.Accepted.{lawful, accepted-none}
-use Rattle.table.proofs.Held.{Holds, listing-same, holds-none, none-holds, task-asked, mode-asked}
-use Rattle.demands.specs.Demand2.{ReadsAs, HeaderWrites, TaskWrites, WrittenAs, EveryLawfulTableIsAccepted, WrittenAndReadBack, Accepted, ReadAndRewritten}
+use Rattle.table.proofs.Held.{Holds, holds-none, none-holds, task-asked, mode-asked}
+use Rattle.demands.specs.Demand2.{ReadsAs, WrittenAs, EveryLawfulTableIsAccepted, WrittenAndReadBack, ReadAndRewritten}
 use Rattle.demands.proofs.Blocks.{together, length-together, block-together, same-blocks}
 use Rattle.demands.proofs.Writers.{header-made, header-writes, header-wrote, task-block, task-made, task-writes, task-wrote}
 

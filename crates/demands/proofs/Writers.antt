@@ -1,9 +1,9 @@
 -- What the writers write of lawful numbers, and what stands in a buffer that they have written. Assumes nothing.
-use Prim.Native.Nat.{ℕ, zero, suc, _+_, _-_, _*_, _%_, _^_, _≤_, _<_}
+use Prim.Native.Nat.{ℕ, zero, suc, _+_, _-_, _*_, _^_, _≤_, _<_}
 use native.Mathlib.Nat.{le-of-dvd, dvd-of-mod-eq-zero}
 use native.Mathlib.Omega.{arith}
 use mathlib.Core.Path.{_≡_, refl, sym, ap, _∙_}
-use mathlib.Core.List.{List, [], _∷_, _++_, append-nil}
+use mathlib.Core.List.{List, _∷_, _++_, append-nil}
 use borrow.Author.Tests.{le-ltb, eq-eqb}
 use lib.ListN.{length, drop, getD, replicate}
 use Rattle.answer.specs.Said.{written}
@@ -14,7 +14,7 @@ use Rattle.block.specs.Layout.{Figures, figuresFrom, flat, threes}
 use Rattle.block.specs.Tests.{modesRows}
 use Rattle.block.specs.Whole.{headerBytes, taskBytes}
 use Rattle.block.proofs.Figures.{threes-flat}
-use Rattle.block.proofs.Round.{HoldsHeader, header-holds, HoldsTask, TaskFits, task-holds}
+use Rattle.block.proofs.Round.{HoldsHeader, header-holds, HoldsTask, task-holds}
 use Rattle.table.specs.Numbers.{TaskNumbers, figuresOf}
 use Rattle.table.specs.Lawful.{LawfulHeader, LawfulTask, LawfulFigures}
 use Rattle.table.proofs.Limits.{header-passes, common-passes, shape-passes, permitted-passes}

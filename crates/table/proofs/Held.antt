@@ -1,14 +1,13 @@
 -- A table whose blocks hold lawful numbers is accepted; an accepted table's blocks hold the numbers that asking gives. Assumes nothing.
 use Prim.Native.Nat.{ℕ, zero, suc, _+_, _-_, _*_, _%_, _≤_, _<_}
 use native.Mathlib.Omega.{arith}
-use mathlib.Core.Path.{_≡_, refl, sym, ap, subst, _∙_}
+use mathlib.Core.Path.{_≡_, refl}
 use mathlib.Core.List.{List, [], _∷_}
-use mathlib.Core.Bool.{false}
 use borrow.Author.Tests.{eq-eqb, ne-eqb, lt-leb}
 use lib.ListN.{length}
 use Rattle.answer.specs.Order.{row, NoneGiven}
 use Rattle.answer.proofs.Rows.{append-none, none-first}
-use Rattle.block.specs.Layout.{tasksIn, coresIn, commonIn, elasticityIn, modesIn, permittedIn, Figures, figuresIn, figuresFrom}
+use Rattle.block.specs.Layout.{tasksIn, commonIn, modesIn, Figures, figuresIn, figuresFrom}
 use Rattle.block.specs.Tests.{figureRows, modesRows}
 use Rattle.block.proofs.Figures.{flat-same}
 use Rattle.block.proofs.Round.{HoldsHeader, HoldsTask}

@@ -1,15 +1,12 @@
 -- `writer::clear` meets its contract. The invariant: zero bytes stand from the offset up to the index. Assumes nothing.
-use mathlib.Core.Path.{_≡_, refl, sym, _∙_}
-use mathlib.Core.List.{List, [], _∷_, _++_}
-use Prim.Native.Nat.{ℕ, _≤_, _+_, _-_, _*_}
+use mathlib.Core.Path.{_≡_, sym}
+use Prim.Native.Nat.{_≤_, _-_}
 use native.Mathlib.Omega.{arith}
-use lib.ListN.{length, getD, replicate, length-replicate, length-set}
+use lib.ListN.{length, replicate, length-replicate}
 use Rattle.writer.specs.Puts.{over}
 use Rattle.writer.proofs.Puts.{over-none, length-over, zero-more}
 use Rattle.writer.proofs.clear.Statement.{statement}
 use Rattle.writer.proofs.clear.Tie as tie
-use Rattle.writer.proofs.clear.Reads as reads
-use Rattle.writer.proofs.clear.Lts as lts
 
 abbrev Inv-loop : tie.InvT-loop
 Inv-loop out₀ from i₀ out i = (from ≤ i) × (i ≤ 508) × (out ≡ over out₀ from (replicate (i - from) 0))

@@ -3,9 +3,6 @@ use Rattle.writer.proofs.Filled.{header-filled}
 use borrow.Author.Needs.{needs}
 use Rattle.writer.proofs.fill_header.Statement.{statement}
 use Rattle.writer.proofs.fill_header.Tie as tie
-use Rattle.writer.proofs.put_front.Reads as put-front-reads
-use Rattle.writer.proofs.put32.Reads as put32-reads
-use Rattle.writer.proofs.finish.Reads as finish-reads
 
 put-front-requires : tie.Need-put-front-requires
 put-front-requires c κs = search needs

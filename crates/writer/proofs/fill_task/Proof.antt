@@ -3,9 +3,6 @@ use Rattle.writer.proofs.Filled.{task-filled}
 use borrow.Author.Needs.{needs}
 use Rattle.writer.proofs.fill_task.Statement.{statement}
 use Rattle.writer.proofs.fill_task.Tie as tie
-use Rattle.writer.proofs.put_front.Reads as put-front-reads
-use Rattle.writer.proofs.put_all.Reads as put-all-reads
-use Rattle.writer.proofs.finish.Reads as finish-reads
 
 put-front-requires : tie.Need-put-front-requires
 put-front-requires c κs = search needs

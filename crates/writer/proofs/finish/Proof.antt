@@ -1,14 +1,8 @@
 -- `writer::finish` meets its contract. Assumes nothing.
-use mathlib.Core.Path.{_≡_, refl, sym, _∙_}
-use lib.ListN.{length, take, drop, replicate}
 use Rattle.writer.proofs.Filled.{closed}
 use borrow.Author.Needs.{needs}
 use Rattle.writer.proofs.finish.Statement.{statement}
 use Rattle.writer.proofs.finish.Tie as tie
-use Rattle.writer.proofs.finish.Reads as reads
-use Rattle.writer.proofs.finish.Lts as lts
-use Rattle.writer.proofs.clear.Reads as clear-reads
-use Rattle.writer.proofs.put32.Reads as put32-reads
 
 clear-requires : tie.Need-clear-requires
 clear-requires c κs = search needs

@@ -3,12 +3,9 @@ use native.Mathlib.Omega.{arith}
 use borrow.Author.Needs.{needs}
 use lib.ListN.{length-set}
 use Rattle.block.specs.Bytes.{asBytes}
-use Rattle.writer.specs.Puts.{over}
 use Rattle.writer.proofs.Puts.{stored}
 use Rattle.writer.proofs.put32.Statement.{statement}
 use Rattle.writer.proofs.put32.Tie as tie
-use Rattle.writer.proofs.put32.Reads as reads
-use Rattle.writer.proofs.put32.Lts as lts
 
 cast-out : tie.Need-cast-out
 cast-out c = search needs

@@ -1,17 +1,13 @@
 -- `writer::put8` meets its contract. Assumes nothing.
-use mathlib.Core.Path.{_≡_, _∙_, sym, ap}
-use Prim.Native.Nat.{ℕ, _%_}
-use mathlib.Core.List.{List, [], _∷_}
+use mathlib.Core.Path.{_≡_}
+use Prim.Native.Nat.{_%_}
+use mathlib.Core.List.{[]}
 use native.Mathlib.Nat.{mod-eq-of-lt}
-use native.Mathlib.Omega.{arith}
 use borrow.Author.Needs.{needs}
 use Rattle.block.specs.Bytes.{asBytes}
-use Rattle.writer.specs.Puts.{over}
 use Rattle.writer.proofs.Puts.{stored}
 use Rattle.writer.proofs.put8.Statement.{statement}
 use Rattle.writer.proofs.put8.Tie as tie
-use Rattle.writer.proofs.put8.Reads as reads
-use Rattle.writer.proofs.put8.Lts as lts
 
 slice-write-out : tie.Need-slice-write-out
 slice-write-out c = search needs

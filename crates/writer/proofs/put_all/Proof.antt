@@ -1,6 +1,6 @@
 -- `writer::put_all` meets its contract. Assumes nothing.
-use mathlib.Core.Path.{_≡_, refl, sym, ap, _∙_}
-use Prim.Native.Nat.{ℕ, _≤_, _<_, _+_, _-_, _*_}
+use mathlib.Core.Path.{_≡_, sym, _∙_}
+use Prim.Native.Nat.{_≤_, _-_}
 use native.Mathlib.Omega.{arith}
 use lib.ListN.{length, take, replicate}
 use lib.Seq.{take-length}
@@ -9,9 +9,6 @@ use Rattle.writer.specs.Puts.{over}
 use Rattle.writer.proofs.Puts.{over-none, length-over, length-words, word-more}
 use Rattle.writer.proofs.put_all.Statement.{statement}
 use Rattle.writer.proofs.put_all.Tie as tie
-use Rattle.writer.proofs.put_all.Reads as reads
-use Rattle.writer.proofs.put_all.Lts as lts
-use Rattle.writer.proofs.put32.Reads as put32-reads
 
 abbrev Inv-loop : tie.InvT-loop
 Inv-loop out₀ at figures i₀ i-end out i = (i ≤ length figures) × (out ≡ over out₀ at (laid (replicate i 4) (take i figures)))

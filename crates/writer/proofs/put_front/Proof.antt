@@ -1,14 +1,11 @@
 -- `writer::put_front` meets its contract. Assumes nothing.
 use mathlib.Core.List.{List, [], _∷_}
 use Prim.Native.Nat.{ℕ}
-use native.Mathlib.Omega.{arith}
 use Rattle.writer.specs.Puts.{frontWidths}
 use Rattle.writer.proofs.Puts.{overs-laid}
 use borrow.Author.Needs.{needs}
 use Rattle.writer.proofs.put_front.Statement.{statement}
 use Rattle.writer.proofs.put_front.Tie as tie
-use Rattle.writer.proofs.put8.Reads as put8-reads
-use Rattle.writer.proofs.put16.Reads as put16-reads
 
 put8-requires : tie.Need-put8-requires
 put8-requires c κs = search needs

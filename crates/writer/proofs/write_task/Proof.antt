@@ -7,7 +7,7 @@ use lib.Dec.{eqb}
 use lib.ListN.{length, drop}
 use borrow.Author.Tests.{ltb-false}
 use Rattle.answer.specs.Said.{written}
-use Rattle.answer.specs.Order.{Row, first, left, NoneGiven}
+use Rattle.answer.specs.Order.{Row, first, afterwards, NoneGiven}
 use Rattle.answer.proofs.Bools.{or-false}
 use Rattle.answer.proofs.Rows.{none-append, append-none}
 use Rattle.answer.proofs.Elses.{kept, passed, answered}
@@ -57,7 +57,7 @@ returns c =
     let before = s .args .out .now in
     let behind = of-modes s ++ of-room s in
     joined (of-numbers s) behind written before (filled s)
-    (kept writing (0 ∷ []) (d .test-numbers .result) (of-numbers s) written (first behind written) before (left behind before (filled s)) tt
+    (kept writing (0 ∷ []) (d .test-numbers .result) (of-numbers s) written (first behind written) before (afterwards behind before (filled s)) tt
     (c .before .match .keys2) (d .test-numbers .ensures))
 
 -- behind good numbers none of their rows is given
@@ -101,7 +101,7 @@ returns-2 c =
     let behind = of-modes s ++ of-room s in
     let o = kept writing (0 ∷ []) (d .in-turn .result) behind written written before (filled s) tt (c .before .match2 .keys2) (answer d) in
     joined (of-numbers s) behind written before (filled s)
-    (goes (of-numbers s) (first behind written) before (left behind before (filled s)) (numbers-none k) (o .says) (o .leaves))
+    (goes (of-numbers s) (first behind written) before (afterwards behind before (filled s)) (numbers-none k) (o .says) (o .leaves))
 
 -- behind a good answer none of all the rows is given
 none : (c : tie.At-match2-keys1)
