@@ -62,7 +62,7 @@ modes-pass at H figures j (suc left) l =
 
 module _ (i at H : ℕ) (t : TaskNumbers) (block : List ℕ) (h : HoldsTask i (t .elasticity) (t .modes) (t .permitted) (figuresOf t) block) where
   -- the block lists the task's figures
-  pub listing-same : figuresFrom (figuresIn block) 0 (modesIn block) ≡ figuresFrom (t .figures) 0 (t .modes)
+  listing-same : figuresFrom (figuresIn block) 0 (modesIn block) ≡ figuresFrom (t .figures) 0 (t .modes)
   listing-same = rw (h .count) (flat-same (figuresFrom (figuresIn block) 0 (t .modes)) (figuresFrom (t .figures) 0 (t .modes)) (h .listing))
 
   whole-task-none : LawfulTask t → ((j : ℕ) → j < t .modes → LawfulFigures H (t .figures j)) → NoneGiven (wholeTaskRows H i at block)
