@@ -68,7 +68,8 @@ pub any-is : (permitted j k i : ℕ) → j ≤ i → i < j + k → allows permit
 unfolding anyAllowed
 any-is permitted j zero i low high e = absurd (omega arith)
 any-is permitted j (suc k) i low high e =
-    ⊎-elim (λ same. let here : allows permitted j ≡ true = rw same e in rw here) (λ more. rw (any-is permitted (j + 1) k i (omega arith) (omega arith) e) (or-right (allows permitted j)))
+    ⊎-elim (λ same. let here : allows permitted j ≡ true = rw same e in rw here)
+    (λ more. rw (any-is permitted (j + 1) k i (omega arith) (omega arith) e) (or-right (allows permitted j)))
     (eq-or-lt-of-le low)
 
 pub any-are-not : (permitted j k : ℕ) → ((i : ℕ) → j ≤ i → i < j + k → allows permitted i ≡ false) → anyAllowed permitted j k ≡ false

@@ -30,12 +30,13 @@ block-of t (suc i) = task-block i (t .task i)
 abbrev table-of : Numbers → List ℕ
 table-of t = together (block-of t) 0 (t .tasks + 1)
 
--- bytes are the written table exactly where each block is the one that belongs there
+-- each block of the bytes is the one that is made of the numbers
 pub record Blocks (t : Numbers) (bytes : List ℕ) : Type 0 where
   pub long : length bytes ≡ 512 * (t .tasks + 1)
   pub front : headerBlock bytes ≡ block-of t 0
   pub each-task : (i : ℕ) → i < t .tasks → taskBlock bytes i ≡ task-block i (t .task i)
 
+-- so it is of what the writers have written
 written-blocks : (t : Numbers) (bytes : List ℕ) → WrittenAs t bytes → Blocks t bytes
 written-blocks t bytes w =
     record {
@@ -44,7 +45,7 @@ written-blocks t bytes w =
       each-task = λ i less. task-wrote (t .common) i (t .task i) (taskBlock bytes i) (w .each-task i less);
     }
 
--- and they are the same bytes
+-- and there is one such table
 one-table : (t : Numbers) (a b : List ℕ) → Blocks t a → Blocks t b → a ≡ b
 one-table t a b p q = same-blocks (t .tasks + 1) a b (p .long) (q .long) each
   where
@@ -55,6 +56,7 @@ one-table t a b p q = same-blocks (t .tasks + 1) a b (p .long) (q .long) each
         rw e (p .each-task i (omega arith) ∙ sym (q .each-task i (omega arith)))
 
 module _ (t : Numbers) (l : Lawful t) where
+  -- of lawful numbers the writers write these blocks, and the blocks hold the numbers
   blocks-written : (bytes : List ℕ) → Blocks t bytes → WrittenAs t bytes
   blocks-written bytes b =
       record {

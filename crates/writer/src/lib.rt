@@ -141,6 +141,7 @@ fn fill_task(
     finish(out, 8 + 12 * modes as usize);
 }
 
+// Whether a buffer has room for a block.
 fn test_room(room: usize) -> Written
     ensures { λ r. ⌜ said r ≡ first (roomRows room) written ⌝ }
 {
@@ -150,6 +151,7 @@ fn test_room(room: usize) -> Written
     Written::Done
 }
 
+// The header writer's test before that of the room.
 fn test_limits(tasks: u16, cores: u16, common: u32) -> Written
     ensures { λ r. ⌜ said r ≡ first (limitRows tasks cores common) written ⌝ }
 {
@@ -243,12 +245,12 @@ pub fn write_task(
     let Written::Done = numbers else {
         return numbers;
     };
-    let tested = test_modes(common, figures);
+    let each_mode = test_modes(common, figures);
     let room = test_room(out.len());
-    let last = in_turn(tested, room);
-    let Written::Done = last else {
-        return last;
+    let rest = in_turn(each_mode, room);
+    let Written::Done = rest else {
+        return rest;
     };
     fill_task(out, number, elasticity, modes, permitted, figures);
-    last
+    rest
 }

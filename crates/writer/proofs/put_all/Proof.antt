@@ -48,7 +48,10 @@ loop-less c = omega arith
 loop-again : tie.Need-loop-again Inv-loop μ-loop
 loop-again c =
     let s = c .before .before .before .before .before .before .before .before .before .args in
-    (omega arith, c .before .before .put32 .ensures ∙ rw (c .before .before .before .before .before .before .loop .inv .1) (word-more (s .out .now) (s .at) (c .before .before .before .before .before .before .loop .i) (s .figures .now) (omega arith) (omega arith)))
+    let l = c .before .before .before .before .before .before .loop in (
+      omega arith,
+      c .before .before .put32 .ensures ∙ rw (l .inv .1) (word-more (s .out .now) (s .at) (l .i) (s .figures .now) (omega arith) (omega arith)),
+    )
 
 same-length : tie.Need-same-length Inv-loop μ-loop
 same-length c = long (c .before)
