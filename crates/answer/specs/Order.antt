@@ -15,7 +15,7 @@ first [] rest = rest
 first (row number at given ∷ rows) rest = cond given (refused number at) (first rows rest)
 
 -- what a lent buffer holds afterwards: what it held before where a row is given
-abbrev pub afterwards : {A : Type 0} → List Row → A → A → A
+abbrev pub afterwards : List Row → List ℕ → List ℕ → List ℕ
 afterwards [] before after = after
 afterwards (row number at given ∷ rows) before after = cond given before (afterwards rows before after)
 

@@ -41,7 +41,7 @@ bytes-take (suc w) (b ∷ bs) h (suc i) = bytes-take w bs (λ j. h (suc j)) i
 pub bytes-drop : (at : ℕ) (s : List ℕ) → Bytes s → Bytes (drop at s)
 bytes-drop at s h i = rw getD-drop (h (at + i))
 
-bytes-append : (a b : List ℕ) → Bytes a → Bytes b → Bytes (a ++ b)
+pub bytes-append : (a b : List ℕ) → Bytes a → Bytes b → Bytes (a ++ b)
 bytes-append [] b ha hb i = hb i
 bytes-append (x ∷ a) b ha hb zero = ha 0
 bytes-append (x ∷ a) b ha hb (suc i) = bytes-append a b (λ j. ha (suc j)) hb i
@@ -54,7 +54,7 @@ bytes-zeros (suc n) (suc i) = bytes-zeros n i
 pub bytes-padded : (s : List ℕ) (n : ℕ) → Bytes s → Bytes (s ++ replicate n 0)
 bytes-padded s n h = bytes-append s (replicate n 0) h (bytes-zeros n)
 
-bytes-bytes : (w x : ℕ) → Bytes (asBytes w x)
+pub bytes-bytes : (w x : ℕ) → Bytes (asBytes w x)
 unfolding asBytes
 bytes-bytes zero x i = omega arith
 bytes-bytes (suc w) x zero = omega arith

@@ -14,7 +14,7 @@ use Rattle.block.specs.Bytes.{Bytes, value, number, laid, checkOf, allZe
 use Rattle.block.specs.Layout.{kindIn, checkIn, editionIn, tasksIn, coresIn, commonIn, headerUnused, elasticityIn, modesIn, permittedIn, taskNumberIn, taskUnused, figuresIn, figuresFrom, flat}
 use Rattle.block.specs.Whole.{sealed, headerWidths, headerBytes, taskWidths, taskBytes}
 use Rattle.block.proofs.Laid.{Fit, total, length-laid, bytes-laid, fields, again}
-use Rattle.block.proofs.Whole.{length-sealed, sealed-zeros, sealed-check, sealed-fields, resealed}
+use Rattle.block.proofs.Whole.{length-sealed, sealed-zeros, sealed-check, sealed-bytes, sealed-fields, resealed}
 
 -- ---- a field that has to be zero, as a number and as bytes
 all-zero-value : (l : List ℕ) → value l ≡ 0 → allZero l ≡ true
@@ -91,6 +91,10 @@ module _ (n m H : ℕ) where
         common = at 5;
         spare = rw (zeros-number 6 2 (headerBytes n m H) (at 4), behind);
       }
+
+  pub header-bytes : Bytes (headerBytes n m H)
+  unfolding headerBytes
+  header-bytes = sealed-bytes (laid headerWidths header-numbers) (bytes-laid headerWidths header-numbers)
 
   -- and one that holds them is made of them
   pub header-again : (block : List ℕ) → Bytes block → HoldsHeader n m H block → headerBytes n m H ≡ block
@@ -180,6 +184,10 @@ module _ (num E modes permitted : ℕ) (figures : List ℕ) where
         listing = sym (fields-flat modes 0 block) ∙ ap (drop 6) read;
         spare = rw (zeros-number 3 1 block (at 3), at 2, behind);
       }
+
+  pub task-bytes : Bytes (taskBytes num E modes permitted figures)
+  unfolding taskBytes
+  task-bytes = sealed-bytes (laid (taskWidths modes) task-numbers) (bytes-laid (taskWidths modes) task-numbers)
 
   -- and one that holds them is made of them
   pub task-again : (block : List ℕ) → Bytes block → modes ≤ 16 → HoldsTask num E modes permitted figures block

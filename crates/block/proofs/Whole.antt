@@ -13,7 +13,7 @@ use Rattle.answer.proofs.Bools.{and-true}
 use Rattle.block.specs.Bytes.{Bytes, number, asBytes, laid, checkOf, allZero, zeros}
 use Rattle.block.specs.Whole.{body, sealed}
 use Rattle.block.proofs.Checks.{weighed-front, check-most}
-use Rattle.block.proofs.Laid.{length-bytes, value-bytes, bytes-number, bytes-padded, Fit, fields, back}
+use Rattle.block.proofs.Laid.{length-bytes, value-bytes, bytes-number, bytes-append, bytes-bytes, bytes-padded, Fit, fields, back}
 
 -- ---- what was sealed
 all-zero : (n : ℕ) → allZero (replicate n 0) ≡ true
@@ -46,6 +46,10 @@ module _ (s : List ℕ) (h : length s ≤ 508) where
       let t = asBytes 4 (checkOf (body s)) in
       let l : length t ≡ 4 = length-bytes 4 (checkOf (body s)) in
       sym (rw (drop-at (body s) t 508 length-body, take-all 4 t (omega arith), value-bytes 4 (checkOf (body s)) small) (sym (check-front t)))
+
+pub sealed-bytes : (s : List ℕ) → Bytes s → Bytes (sealed s)
+unfolding sealed body
+sealed-bytes s b = bytes-append (body s) (asBytes 4 (checkOf (body s))) (bytes-padded s (508 - length s) b) (bytes-bytes 4 (checkOf (body s)))
 
 pub sealed-fields : (ws xs : List ℕ) → Fit ws xs → fields ws 0 (sealed (laid ws xs)) ≡ xs
 unfolding sealed body

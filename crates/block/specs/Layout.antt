@@ -68,6 +68,7 @@ unfoldable pub flat : List Figures → List ℕ
 flat [] = []
 flat (f ∷ fs) = f .work ∷ f .span ∷ f .period ∷ flat fs
 
+-- and back; one or two numbers left over are no mode
 unfoldable pub threes : List ℕ → List Figures
 threes [] = []
 threes (C ∷ []) = []

@@ -6,6 +6,8 @@ use mathlib.Core.Path.{_≡_, refl, sym, _∙_}
 use mathlib.Core.List.{List, [], _∷_, _++_}
 use lib.ListN.{length, take, drop, length-append, length-drop, take-append-drop}
 use lib.Seq.{take-at, drop-at, drop-drop}
+use Rattle.block.specs.Bytes.{Bytes}
+use Rattle.block.proofs.Laid.{bytes-append}
 use Rattle.table.specs.Order.{blockAt}
 
 block-zero : (bytes : List ℕ) → blockAt 0 bytes ≡ take 512 bytes
@@ -18,7 +20,7 @@ block-next k bytes =
     let e : 512 * (k + 1) ≡ 512 + 512 * k = omega arith in
     rw (e, drop-drop)
 
--- the blocks of a list of them, left from block i on
+-- `left` blocks from block i on, one after another
 unfoldable pub together : (ℕ → List ℕ) → ℕ → ℕ → List ℕ
 together f i zero = []
 together f i (suc left) = f i ++ together f (i + 1) left
@@ -41,6 +43,11 @@ module _ (f : ℕ → List ℕ) where
       let rest : drop 512 (f i ++ together f (i + 1) left) ≡ together f (i + 1) left =
       drop-at (f i) (together f (i + 1) left) 512 (l i (omega arith) (omega arith)) in
       rw (one, block-next, rest, more) (block-together (i + 1) left k (λ j low high. l j (omega arith) (omega arith)) (omega arith))
+
+  pub bytes-together : ((k : ℕ) → Bytes (f k)) → (i left : ℕ) → Bytes (together f i left)
+  unfolding together
+  bytes-together b i zero k = omega arith
+  bytes-together b i (suc left) k = bytes-append (f i) (together f (i + 1) left) (b i) (bytes-together b (i + 1) left) k
 
 -- bytes with the same blocks are the same
 pub same-blocks : (n : ℕ) (a b : List ℕ) → length a ≡ 512 * n → length b ≡ 512 * n → ((k : ℕ) → k < n → blockAt k a ≡ blockAt k b) → a ≡ b

@@ -11,7 +11,7 @@ use Rattle.block.specs.Bytes.{Bytes}
 use Rattle.block.specs.Layout.{elasticityIn, modesIn, permittedIn, figuresIn, figuresFrom, flat}
 use Rattle.block.specs.Whole.{headerBytes}
 use Rattle.block.proofs.Figures.{each-same, same-each, flat-same}
-use Rattle.block.proofs.Round.{HoldsHeader, header-again, HoldsTask, task-again}
+use Rattle.block.proofs.Round.{HoldsHeader, header-bytes, header-again, HoldsTask, task-bytes, task-again}
 use Rattle.table.specs.Order.{blockAt, headerBlock, taskBlock, headerSaid, taskSaid, figuresSaid, tableRows}
 use Rattle.table.specs.Numbers.{figuresOf, Numbers, numbersIn}
 use Rattle.table.specs.Lawful.{Lawful}
@@ -19,7 +19,7 @@ use Rattle.table.proofs.Blocks.{bytes-block}
 use Rattle.table.proofs.Accepted.{lawful, accepted-none}
 use Rattle.table.proofs.Held.{Holds, holds-none, none-holds, task-asked, mode-asked}
 use Rattle.demands.specs.Demand2.{ReadsAs, WrittenAs, EveryLawfulTableIsAccepted, WrittenAndReadBack, ReadAndRewritten}
-use Rattle.demands.proofs.Blocks.{together, length-together, block-together, same-blocks}
+use Rattle.demands.proofs.Blocks.{together, length-together, block-together, bytes-together, same-blocks}
 use Rattle.demands.proofs.Writers.{header-made, header-writes, header-wrote, task-block, task-made, task-writes, task-wrote}
 
 -- ---- the blocks of a table, by their number: the header, then the tasks
@@ -29,6 +29,10 @@ block-of t (suc i) = task-block i (t .task i)
 
 abbrev table-of : Numbers → List ℕ
 table-of t = together (block-of t) 0 (t .tasks + 1)
+
+block-bytes : (t : Numbers) (k : ℕ) → Bytes (block-of t k)
+block-bytes t zero = header-bytes (t .tasks) (t .cores) (t .common)
+block-bytes t (suc i) = let a = t .task i in task-bytes i (a .elasticity) (a .modes) (a .permitted) (figuresOf a)
 
 -- each block of the bytes is the one that is made of the numbers
 pub record Blocks (t : Numbers) (bytes : List ℕ) : Type 0 where
@@ -122,7 +126,7 @@ written-and-read-back t bytes l w =
 pub every-lawful-table-is-accepted : EveryLawfulTableIsAccepted
 every-lawful-table-is-accepted t l =
     let w = blocks-written t l (table-of t) (table-blocks t l) in
-    (table-of t, w, written-and-read-back t (table-of t) l w .front)
+    (table-of t, bytes-together (block-of t) (block-bytes t) 0 (t .tasks + 1), w, written-and-read-back t (table-of t) l w .front)
 
 -- ---- read, then written
 module _ (bytes : List ℕ) (b : Bytes bytes) (p : NoneGiven (tableRows bytes)) where

@@ -1,4 +1,5 @@
--- Demand 2: "Every lawful table is accepted. Written and read back it gives the same numbers; read and rewritten, the same bytes."
+-- Demand 2, its sentences about tables: "Every lawful table is accepted. Written and read back it gives the same numbers; read and
+-- rewritten, the same bytes."
 use Prim.Native.Nat.{ℕ, _+_, _*_, _≤_, _<_}
 use mathlib.Core.Path.{_≡_}
 use mathlib.Core.List.{List, _++_}
@@ -18,7 +19,8 @@ pub record ReadsAs (bytes : List ℕ) (t : Numbers) : Type 0 where
   pub each-mode : (i j : ℕ) → i < t .tasks → j < t .task i .modes
       → askModeSaid bytes i j ≡ figures (t .task i .figures j .work) (t .task i .figures j .span) (t .task i .figures j .period)
 
--- ---- writing: of any buffer with room `write_header` answers Done and leaves this block at its front, and so does `write_task`
+-- ---- writing: lent any buffer with room, `write_header` answers Done, leaves this block in its first 512 bytes and the rest as it was;
+-- `write_task` likewise
 abbrev pub HeaderWrites : ℕ → ℕ → ℕ → List ℕ → Type 0
 HeaderWrites n m H block = (buffer : List ℕ) → 512 ≤ length buffer → WroteHeader n m H buffer Done (block ++ drop 512 buffer)
 
@@ -38,7 +40,7 @@ pub record WrittenAs (t : Numbers) (bytes : List ℕ) : Type 0 where
 abbrev pub EveryLawfulTableIsAccepted : Type 0
 EveryLawfulTableIsAccepted =
     (t : Numbers) → Lawful t
-    → (bytes : List ℕ) × WrittenAs t bytes × (tableSaid bytes ≡ header (t .tasks) (t .cores) (t .common))
+    → (bytes : List ℕ) × Bytes bytes × WrittenAs t bytes × (tableSaid bytes ≡ header (t .tasks) (t .cores) (t .common))
 
 -- written and read back it gives the same numbers
 abbrev pub WrittenAndReadBack : Type 0

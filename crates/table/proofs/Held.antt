@@ -50,7 +50,7 @@ header-none block h l = (
   ),
 )
 
--- lawful modes pass, wherever a refusal would name
+-- lawful modes pass, whatever place a refusal would name
 pub modes-pass : (at H : ℕ) (figures : ℕ → Figures) (j left : ℕ) → ((k : ℕ) → j ≤ k → k < j + left → LawfulFigures H (figures k))
     → NoneGiven (modesRows at H (figuresFrom figures j left))
 unfolding modesRows figuresFrom

@@ -1,4 +1,5 @@
--- Numbers and limits: which numbers a table may have, and what holds of the bytes of an accepted table.
+-- Which numbers a table may have: those of "Numbers and limits", with the rule of the permitted modes and that each mode can meet its
+-- period; and what holds of the bytes of an accepted table.
 use Prim.Native.Nat.{ℕ, _+_, _*_, _%_, _^_, _≤_, _<_}
 use mathlib.Core.List.{List}
 use mathlib.Core.Bool.{true, false}

@@ -1,4 +1,4 @@
--- The numbers of a table, as asking gives them: of each task below the count, and of each of its modes below theirs.
+-- The numbers of a table, as asking gives them: of each task below their count, and of each mode below the task's mode count.
 use Prim.Native.Nat.{ℕ}
 use mathlib.Core.List.{List}
 use Rattle.block.specs.Layout.{tasksIn, coresIn, commonIn, elasticityIn, modesIn, permittedIn, Figures, figuresIn, figuresFrom, flat}

@@ -30,26 +30,26 @@ closed d from h k =
     rw (b, c, take-at (body t) _ 508 n, far)
 
 -- the first 8 bytes, the rest of the bytes with a meaning, and the block closed behind them
-filled : (d front rest s : List ℕ) (n : ℕ) {d1 d2 d3 : List ℕ} → length front ≡ 8 → front ++ rest ≡ s → length s ≡ n → n ≤ 508 → 512 ≤ length d
-    → d1 ≡ over d 0 front → d2 ≡ over d1 8 rest → d3 ≡ sealed (take n d2) ++ drop 512 d2 → d3 ≡ sealed s ++ drop 512 d
+filled : (d front rest s : List ℕ) (n : ℕ) → length front ≡ 8 → front ++ rest ≡ s → length s ≡ n → n ≤ 508 → 512 ≤ length d
+    → sealed (take n (over (over d 0 front) 8 rest)) ++ drop 512 (over (over d 0 front) 8 rest) ≡ sealed s ++ drop 512 d
 unfolding over
-filled d front rest s n eight whole l h room e1 e2 e3 =
+filled d front rest s n eight whole l h room =
     let m : n + (512 - n) ≡ 512 = omega arith in
     let far : drop 512 (s ++ drop n d) ≡ drop 512 d = rw (← m, ← drop-drop (512 - n) n (s ++ drop n d), drop-at s _ n l, drop-drop) in
     let put : over (over d 0 front) 8 rest ≡ over d 0 s = over-over d 0 front rest 8 (omega arith) (rw zero-add eight) ∙ ap (over d 0) whole in
-    rw (e3, e2, e1, put, l, zero-add, take-at s _ n l, far)
+    rw (put, l, zero-add, take-at s _ n l, far)
 
-module _ (d : List ℕ) (n m H : ℕ) {d1 d2 d3 : List ℕ} where
+module _ (d : List ℕ) (n m H : ℕ) where
   pub header-filled : n < 256 ^ 2 → m < 256 ^ 2 → H < 256 ^ 4 → 512 ≤ length d
-      → d1 ≡ over d 0 (laid frontWidths (1 ∷ 1 ∷ n ∷ m ∷ 0 ∷ [])) → d2 ≡ over d1 8 (asBytes 4 H) → d3 ≡ sealed (take 12 d2) ++ drop 512 d2
-      → d3 ≡ headerBytes n m H ++ drop 512 d
+      → let put = over (over d 0 (laid frontWidths (1 ∷ 1 ∷ n ∷ m ∷ 0 ∷ []))) 8 (asBytes 4 H) in
+      sealed (take 12 put) ++ drop 512 put ≡ headerBytes n m H ++ drop 512 d
   unfolding frontWidths headerWidths headerBytes laid
-  header-filled hn hm hH room e1 e2 e3 =
+  header-filled hn hm hH room =
       let xs : List ℕ = 1 ∷ 1 ∷ n ∷ m ∷ 0 ∷ [] in
       let f : Fit frontWidths xs = (omega arith, (omega arith, (omega arith, (omega arith, (omega arith, tt))))) in
       let all : laid frontWidths xs ++ asBytes 4 H ≡ laid headerWidths (1 ∷ 1 ∷ n ∷ m ∷ 0 ∷ H ∷ []) = simp (append-assoc, append-nil) in
       filled d (laid frontWidths xs) (asBytes 4 H) (laid headerWidths (1 ∷ 1 ∷ n ∷ m ∷ 0 ∷ H ∷ [])) 12
-      (length-laid frontWidths xs f) all (header-long n m H (header-fit n m H hn hm hH)) (omega arith) room e1 e2 e3
+      (length-laid frontWidths xs f) all (header-long n m H (header-fit n m H hn hm hH)) (omega arith) room
 
 -- a small count and a zero byte are one number of 16 bits
 count-zero : (modes : ℕ) → modes < 256 → asBytes 2 modes ≡ asBytes 1 modes ++ asBytes 1 0
@@ -58,16 +58,16 @@ count-zero modes h =
     let none : modes / 256 ≡ 0 = omega arith in
     rw none
 
-module _ (number E modes permitted : ℕ) (figures : List ℕ) (t : TaskFits number E modes permitted figures) (d : List ℕ) {d1 d2 d3 : List ℕ} where
-  pub task-filled : 512 ≤ length d → d1 ≡ over d 0 (laid frontWidths (2 ∷ E ∷ modes ∷ permitted ∷ number ∷ []))
-      → d2 ≡ over d1 8 (laid (replicate (length figures) 4) figures) → d3 ≡ sealed (take (8 + 12 * modes) d2) ++ drop 512 d2
-      → d3 ≡ taskBytes number E modes permitted figures ++ drop 512 d
+module _ (number E modes permitted : ℕ) (figures : List ℕ) (t : TaskFits number E modes permitted figures) (d : List ℕ) where
+  pub task-filled : 512 ≤ length d
+      → let put = over (over d 0 (laid frontWidths (2 ∷ E ∷ modes ∷ permitted ∷ number ∷ []))) 8 (laid (replicate (length figures) 4) figures) in
+      sealed (take (8 + 12 * modes) put) ++ drop 512 put ≡ taskBytes number E modes permitted figures ++ drop 512 d
   unfolding frontWidths taskWidths taskBytes laid
-  task-filled room e1 e2 e3 =
+  task-filled room =
       let xs : List ℕ = 2 ∷ E ∷ modes ∷ permitted ∷ number ∷ [] in
       let f : Fit frontWidths xs = (omega (arith, t), (omega (arith, t), (omega (arith, t), (omega (arith, t), (omega (arith, t), tt))))) in
       let words = laid (replicate (length figures) 4) figures in
       let whole = laid (taskWidths modes) (2 ∷ E ∷ modes ∷ 0 ∷ permitted ∷ number ∷ figures) in
       let all : laid frontWidths xs ++ words ≡ whole = rw (count-zero modes (omega (arith, t .few)), t .three) (simp (append-assoc, append-nil)) in
       filled d (laid frontWidths xs) words whole (8 + 12 * modes) (length-laid frontWidths xs f) all
-      (task-long number E modes permitted figures (task-fit number E modes permitted figures t)) (omega (arith, t .few)) room e1 e2 e3
+      (task-long number E modes permitted figures (task-fit number E modes permitted figures t)) (omega (arith, t .few)) room

@@ -11,7 +11,7 @@ ghost use Rattle.block.specs.Bytes.{asBytes, laid};
 ghost use Rattle.block.specs.Layout.{threes};
 ghost use Rattle.block.specs.Tests.{wrongShape, modesRows};
 ghost use Rattle.block.specs.Whole.{sealed, headerBytes, taskBytes};
-ghost use Rattle.writer.specs.Said.{said, inTurn};
+ghost use Rattle.writer.specs.Said.{said, inTurn, handedOn};
 ghost use Rattle.writer.specs.Order.{roomRows, limitRows, numberRows, WroteHeader, WroteTask};
 ghost use Rattle.writer.specs.Puts.{over, frontWidths};
 use answer::Refusal;
@@ -44,6 +44,16 @@ fn in_turn(one: Written, next: Written) -> Written
         return one;
     };
     next
+}
+
+// A reading's refusal, as a writer's.
+fn hand_on(got: Reading) -> Written
+    ensures { λ r. ⌜ r ≡ handedOn got ⌝ }
+{
+    match got {
+        Reading::Refused(refusal) => Written::Refused(refusal),
+        _ => Written::Done,
+    }
 }
 
 // Puts a number at an offset, as 1, 2 or 4 bytes, least significant first.
@@ -102,7 +112,8 @@ fn finish(out: &mut [u8], from: usize)
     put32(out, 508, check);
 }
 
-// The first 8 bytes of a block: two numbers of 8 bits and three of 16.
+// The first 8 bytes of a block: kind, edition, n, m and zero of a header; kind, E, mode count with the zero byte behind it, permitted modes
+// and number of a task.
 fn put_front(out: &mut [u8], kind: u8, second: u8, third: u16, fourth: u16, fifth: u16)
     requires { ⌜ 8 ≤ length (now out) ⌝ }
     ensures { λ _. ⌜ now (out .exit) ≡ over (now (out .entry)) 0 (laid frontWidths (kind ∷ second ∷ third ∷ fourth ∷ fifth ∷ [])) ⌝ }
@@ -124,7 +135,7 @@ fn fill_header(out: &mut [u8], tasks: u16, cores: u16, common: u32)
     finish(out, 12);
 }
 
-// A task block, in the first 512 bytes of a buffer. The mode count and the zero byte behind it are one number of 16 bits.
+// A task block, in the first 512 bytes of a buffer.
 fn fill_task(
     out: &mut [u8],
     number: u16,
@@ -207,9 +218,9 @@ fn test_modes(common: u32, figures: &[u32]) -> Written
             figures[from + 2],
             0,
         );
-        if let Reading::Refused(refusal) = one {
-            return Written::Refused(refusal);
-        }
+        let Reading::Figures { .. } = one else {
+            return hand_on(one);
+        };
         from += 3;
     }
     Written::Done

@@ -18,13 +18,9 @@ same-length c = search needs
 
 returns : tie.Need-returns
 returns c =
-    let c2 = c .before .before in
-    let c1 = c2 .before .before .before .before in
-    let c0 = c1 .before .before .before .before in
-    let s = c0 .before .before .before in
+    let s = c .before .before .before .before .before .before .before .before .before .before .before .before .before in
     let a = s .args in
-    header-filled (a .out .now) (a .tasks) (a .cores) (a .common) (s .fits .tasks .fits) (s .fits .cores .fits) (s .fits .common .fits) (s .pre)
-    (c0 .put-front .ensures) (c1 .put32 .ensures) (c2 .finish .ensures)
+    cc (header-filled (a .out .now) (a .tasks) (a .cores) (a .common) (s .fits .tasks .fits) (s .fits .cores .fits) (s .fits .common .fits) (s .pre))
 
 pub fill-header-spec : {M : Type 1} → statement M
 fill-header-spec = tie.close (tie.spec put-front-requires put32-requires finish-requires same-length returns)

@@ -29,7 +29,7 @@ returns c =
     let c0 = c1 .before .before .before .before in
     let s = c0 .before .before .before .before in
     let a = s .args in
-    task-filled (a .number) (a .elasticity) (a .modes) (a .permitted) (a .figures .now)
+    cc (task-filled (a .number) (a .elasticity) (a .modes) (a .permitted) (a .figures .now)
     (record {
       number = s .fits .number .fits;
       elasticity = s .fits .elasticity .fits;
@@ -38,7 +38,7 @@ returns c =
       words = λ i. c0 .before .before .shared-slice-known .given i .fits;
       three = s .pre .2;
     })
-    (a .out .now) (s .pre .0) (c0 .put-front .ensures) (c1 .put-all .ensures) (c2 .finish .ensures)
+    (a .out .now) (s .pre .0))
 
 pub fill-task-spec : {M : Type 1} → statement M
 fill-task-spec =

@@ -1,5 +1,6 @@
 -- `writer::finish` meets its contract. Assumes nothing.
 use Rattle.writer.proofs.Filled.{closed}
+use native.Mathlib.Omega.{arith}
 use borrow.Author.Needs.{needs}
 use Rattle.writer.proofs.finish.Statement.{statement}
 use Rattle.writer.proofs.finish.Tie as tie
@@ -19,7 +20,7 @@ same-length c = search needs
 returns : tie.Need-returns
 returns c =
     let s = c .before .before .before .before .before .before .before .before .before .before .before in
-    let z = closed (s .args .out .now) (s .args .from) (s .pre .0) (s .pre .1) in
+    let z = closed (s .args .out .now) (s .args .from) (s .pre .0) (omega (arith, s .pre .1)) in
     cc z
 
 pub finish-spec : {M : Type 1} → statement M

@@ -10,9 +10,10 @@ use Rattle.answer.proofs.Elses.{stopped, went-on}
 use Rattle.block.specs.Layout.{Figures, listed, threes}
 use Rattle.block.specs.Tests.{figureRows, modesRows}
 use Rattle.block.proofs.Figures.{lent-more, lent-end}
-use Rattle.table.specs.Said.{said}
 use Rattle.table.specs.Order.{figuresSaid}
 use Rattle.table.proofs.Readings.{reading}
+use Rattle.writer.specs.Said.{said}
+use Rattle.writer.proofs.Answers.{rows-handed-on}
 use borrow.Author.Needs.{needs}
 use Rattle.writer.proofs.test_modes.Statement.{statement}
 use Rattle.writer.proofs.test_modes.Tie as tie
@@ -57,8 +58,11 @@ shared-slice-read-test-figures-3 c = omega arith
 test-figures-requires : tie.Need-test-figures-requires Inv-loop μ-loop
 test-figures-requires c κs = search needs
 
-enum-known-one : tie.Need-enum-known-one Inv-loop μ-loop
-enum-known-one c = search needs
+enum-told : tie.Need-enum-told Inv-loop μ-loop
+enum-told c = search needs
+
+hand-on-requires : tie.Need-hand-on-requires Inv-loop μ-loop
+hand-on-requires c κs = search needs
 
 -- the mode at hand
 abbrev here : tie.After-test-figures Inv-loop μ-loop → Figures
@@ -80,11 +84,12 @@ further c =
 
 returns : tie.Need-returns Inv-loop μ-loop
 returns c =
-    let d = c .before .before .before in
+    let d = c .before .before in
     let r = d .test-figures in
-    let common = d .before .before .before .before .before .before .before .args .common in
-    sym (ap said (c .before .one .given .1))
-    ∙ stopped reading (0 ∷ []) (r .result) (figureRows 0 common (here d)) (figuresSaid (here d)) _ tt (c .before .before .match .keys1) (r .ensures)
+    let rows = figureRows 0 (d .before .before .before .before .before .before .before .args .common) (here d) in
+    ap said (c .hand-on .ensures)
+    ∙ rows-handed-on rows (r .result) _
+    (λ t. stopped reading (0 ∷ 1 ∷ 2 ∷ []) (r .result) rows (figuresSaid (here d)) t tt (c .before .match .keys2) (r .ensures))
     ∙ sym (further d)
 
 add-from : tie.Need-add-from Inv-loop μ-loop
@@ -95,12 +100,11 @@ loop-less c = omega arith
 
 loop-again : tie.Need-loop-again Inv-loop μ-loop
 loop-again c =
-    let d = c .before in
+    let d = c .before .before in
     let r = d .test-figures in
-    let common = d .before .before .before .before .before .before .before .args .common in (
+    let rows = figureRows 0 (d .before .before .before .before .before .before .before .args .common) (here d) in (
       omega arith,
-      further d
-          ∙ went-on reading (1 ∷ 2 ∷ 3 ∷ []) (r .result) (figureRows 0 common (here d)) (figuresSaid (here d)) tt (c .match .keys2) (r .ensures) _,
+      further d ∙ went-on reading (3 ∷ []) (r .result) rows (figuresSaid (here d)) tt (c .before .match .keys1) (r .ensures) _,
     )
 
 returns-2 : tie.Need-returns-2 Inv-loop μ-loop
@@ -126,7 +130,8 @@ test-modes-spec =
     mul-test-figures-3
     shared-slice-read-test-figures-3
     test-figures-requires
-    enum-known-one
+    enum-told
+    hand-on-requires
     returns
     add-from
     loop-less

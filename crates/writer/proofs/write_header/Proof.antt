@@ -36,6 +36,18 @@ answer c =
     (c .before .before .test-limits .result) (c .before .test-room .result)
     (c .before .before .test-limits .ensures) (c .before .test-room .ensures)
 
+-- behind a good answer no row is given
+none : (c : tie.At-match-keys1)
+    → let a = c .before .before .before .before .before .args in
+    NoneGiven (writeHeaderRows (a .tasks) (a .cores) (a .common) (length (a .out .now))) × (said (c .before .in-turn .result) ≡ written)
+none c =
+    let d = c .before in
+    let a = d .before .before .before .before .args in
+    let rows = writeHeaderRows (a .tasks) (a .cores) (a .common) (length (a .out .now)) in (
+      passed writing (1 ∷ []) (d .in-turn .result) rows written tt (c .match .keys1) (answer d),
+      answered writing (1 ∷ []) (d .in-turn .result) rows written tt (c .match .keys1) (answer d),
+    )
+
 enum-told : tie.Need-enum-told
 enum-told c = search needs
 
@@ -49,18 +61,6 @@ returns c =
     let rows = writeHeaderRows (a .tasks) (a .cores) (a .common) (length (a .out .now)) in
     kept writing (0 ∷ []) (d .in-turn .result) rows written written (a .out .now) (headerBytes (a .tasks) (a .cores) (a .common) ++ drop 512 (a .out .now)) tt
     (c .before .match .keys2) (answer d)
-
--- behind a good answer no row is given
-none : (c : tie.At-match-keys1)
-    → let a = c .before .before .before .before .before .args in
-    NoneGiven (writeHeaderRows (a .tasks) (a .cores) (a .common) (length (a .out .now))) × (said (c .before .in-turn .result) ≡ written)
-none c =
-    let d = c .before in
-    let a = d .before .before .before .before .args in
-    let rows = writeHeaderRows (a .tasks) (a .cores) (a .common) (length (a .out .now)) in (
-      passed writing (1 ∷ []) (d .in-turn .result) rows written tt (c .match .keys1) (answer d),
-      answered writing (1 ∷ []) (d .in-turn .result) rows written tt (c .match .keys1) (answer d),
-    )
 
 fill-header-requires : tie.Need-fill-header-requires
 unfolding writeHeaderRows
