@@ -8,6 +8,10 @@ use lib.Dec.{T}
 pub clash : {A : Type 0} → true ≡ false → A
 clash e = absurd (subst T e tt)
 
+pub or-right : (a : Bool) → (a || true) ≡ true
+or-right true = refl
+or-right false = refl
+
 pub or-false : (a b : Bool) → (a || b) ≡ false → (a ≡ false) × (b ≡ false)
 or-false true b e = clash e
 or-false false b e = (refl, e)

@@ -38,6 +38,12 @@ kind (filled p) = 5
 kind (plan u v) = 6
 kind written = 7
 
+-- rows before a refusal give a refusal
+pub kind-refused : (A : List Row) → kind (first A (refused 0 0)) ≡ 0
+kind-refused [] = refl
+kind-refused (row n k true ∷ A) = refl
+kind-refused (row n k false ∷ A) = kind-refused A
+
 -- an answer of another kind than the rest is a refusal of the rows, whatever the rest is
 pub stop : (A : List Row) {x : Said} (s t : Said) → (kind x ≡ kind s → ⊥) → x ≡ first A s → x ≡ first A t
 stop [] s t ne q = absurd (ne (ap kind q))

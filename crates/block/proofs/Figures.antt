@@ -1,5 +1,5 @@
--- Laws of the modes in turn. Assumes nothing.
-use Prim.Native.Nat.{ℕ, zero, suc, _+_, _-_, _≤_, _<_}
+-- Laws of the modes in turn: the order of their refusals, and their figures as they are lent. Assumes nothing.
+use Prim.Native.Nat.{ℕ, zero, suc, _+_, _-_, _*_, _^_, _≤_, _<_}
 use native.Mathlib.Nat.{eq-or-lt-of-le}
 use native.Mathlib.Omega.{arith}
 use mathlib.Core.Logic.{⊎-elim}
@@ -34,31 +34,7 @@ module _ (figures : ℕ → Figures) (at H : ℕ) where
   unfolding modesRows figuresFrom
   modes-end j modes s p = let e : modes - j ≡ 0 = omega arith in ap (λ (k : ℕ). first (modesRows at H (figuresFrom figures j k)) s) e
 
--- ---- modes one by one, and in turn
-module _ (f g : ℕ → Figures) where
-  pub each-same : (j left : ℕ) → ((k : ℕ) → j ≤ k → k < j + left → f k ≡ g k) → figuresFrom f j left ≡ figuresFrom g j left
-  unfolding figuresFrom
-  each-same j zero e = refl
-  each-same j (suc left) e = rw (e j (omega arith) (omega arith), each-same (j + 1) left (λ k low high. e k (omega arith) (omega arith)))
-
-  pub same-each : (j left : ℕ) → figuresFrom f j left ≡ figuresFrom g j left → (k : ℕ) → j ≤ k → k < j + left → f k ≡ g k
-  unfolding figuresFrom
-  same-each j zero e k low high = absurd (omega arith)
-  same-each j (suc left) e k low high =
-      ⊎-elim (λ same. subst (λ (x : ℕ). f x ≡ g x) same (ap (λ (l : List Figures). getD l 0 (f j)) e))
-      (λ more. same-each (j + 1) left (ap (drop 1) e) k (omega arith) (omega arith))
-      (eq-or-lt-of-le low)
-
--- ---- lent, three numbers for each mode
-pub threes-flat : (fs : List Figures) → threes (flat fs) ≡ fs
-unfolding threes flat
-threes-flat [] = refl
-threes-flat (f ∷ fs) = ap (λ (l : List Figures). f ∷ l) (threes-flat fs)
-
-pub flat-same : (a b : List Figures) → flat a ≡ flat b → a ≡ b
-flat-same a b e = sym (threes-flat a) ∙ ap threes e ∙ threes-flat b
-
--- the same of figures that are lent, three numbers for each mode
+-- the same of figures that are lent
 module _ (lent : List ℕ) (at H : ℕ) where
   threes-more : (from : ℕ) → 3 ≤ length lent - from
       → threes (drop from lent) ≡ listed (getD lent from 0) (getD lent (from + 1) 0) (getD lent (from + 2) 0) ∷ threes (drop (from + 3) lent)
@@ -87,3 +63,54 @@ module _ (lent : List ℕ) (at H : ℕ) where
   pub lent-end : (from : ℕ) (s : Said) → length lent - from < 3 → first (modesRows at H (threes (drop from lent))) s ≡ s
   unfolding modesRows
   lent-end from s h = ap (λ (fs : List Figures). first (modesRows at H fs) s) (threes-end (drop from lent) (rw length-drop h))
+
+-- ---- modes one by one, and in turn
+module _ (f g : ℕ → Figures) where
+  pub each-same : (j left : ℕ) → ((k : ℕ) → j ≤ k → k < j + left → f k ≡ g k) → figuresFrom f j left ≡ figuresFrom g j left
+  unfolding figuresFrom
+  each-same j zero e = refl
+  each-same j (suc left) e = rw (e j (omega arith) (omega arith), each-same (j + 1) left (λ k low high. e k (omega arith) (omega arith)))
+
+  pub same-each : (j left : ℕ) → figuresFrom f j left ≡ figuresFrom g j left → (k : ℕ) → j ≤ k → k < j + left → f k ≡ g k
+  unfolding figuresFrom
+  same-each j zero e k low high = absurd (omega arith)
+  same-each j (suc left) e k low high =
+      ⊎-elim (λ same. subst (λ (x : ℕ). f x ≡ g x) same (ap (λ (l : List Figures). getD l 0 (f j)) e))
+      (λ more. same-each (j + 1) left (ap (drop 1) e) k (omega arith) (omega arith))
+      (eq-or-lt-of-le low)
+
+-- ---- lent, three numbers for each mode
+pub threes-flat : (fs : List Figures) → threes (flat fs) ≡ fs
+unfolding threes flat
+threes-flat [] = refl
+threes-flat (f ∷ fs) = ap (λ (l : List Figures). f ∷ l) (threes-flat fs)
+
+pub flat-same : (a b : List Figures) → flat a ≡ flat b → a ≡ b
+flat-same a b e = sym (threes-flat a) ∙ ap threes e ∙ threes-flat b
+
+pub length-flat : (figures : ℕ → Figures) (j left : ℕ) → length (flat (figuresFrom figures j left)) ≡ 3 * left
+unfolding flat figuresFrom
+length-flat figures j zero = refl
+length-flat figures j (suc left) = omega (arith, length-flat figures (j + 1) left)
+
+-- each figure fits 32 bits
+pub record Small (f : Figures) : Type 0 where
+  pub work : f .work < 256 ^ 4
+  pub span : f .span < 256 ^ 4
+  pub period : f .period < 256 ^ 4
+
+cons-small : (x : ℕ) (xs : List ℕ) → x < 256 ^ 4 → ((i : ℕ) → getD xs i 0 < 256 ^ 4) → (i : ℕ) → getD (x ∷ xs) i 0 < 256 ^ 4
+cons-small x xs h t zero = h
+cons-small x xs h t (suc i) = t i
+
+pub flat-small : (figures : ℕ → Figures) (j left : ℕ) → ((k : ℕ) → j ≤ k → k < j + left → Small (figures k))
+    → (i : ℕ) → getD (flat (figuresFrom figures j left)) i 0 < 256 ^ 4
+unfolding flat figuresFrom
+flat-small figures j zero h i = omega arith
+flat-small figures j (suc left) h i =
+    let f = h j (omega arith) (omega arith) in
+    let rest = flat-small figures (j + 1) left (λ k low high. h k (omega arith) (omega arith)) in
+    let xs = flat (figuresFrom figures (j + 1) left) in
+    let T = figures j .period in
+    let L = figures j .span in
+    cons-small (figures j .work) (L ∷ T ∷ xs) (f .work) (cons-small L (T ∷ xs) (f .span) (cons-small T xs (f .period) rest)) i

@@ -7,9 +7,9 @@ use lib.Bits.{bitAnd, and-mask}
 use lib.Pow.{pow-mono, shr-lt}
 use lib.Dec.{eqb}
 use mathlib.Core.Path.{_≡_, refl, sym, ap, subst}
-use mathlib.Core.Bool.{Bool, true, false, _||_}
+use mathlib.Core.Bool.{true, false, _||_}
 use mathlib.Core.Logic.{⊎-elim}
-use Rattle.answer.proofs.Bools.{clash, or-true, or-false}
+use Rattle.answer.proofs.Bools.{clash, or-right, or-true, or-false}
 use Rattle.block.specs.Tests.{allows, anyAllowed}
 
 -- shift and mask
@@ -60,10 +60,6 @@ any-none permitted j (suc k) e i low high =
     (eq-or-lt-of-le low)
 
 -- and back
-or-right : (a : Bool) → (a || true) ≡ true
-or-right true = refl
-or-right false = refl
-
 pub any-is : (permitted j k i : ℕ) → j ≤ i → i < j + k → allows permitted i ≡ true → anyAllowed permitted j k ≡ true
 unfolding anyAllowed
 any-is permitted j zero i low high e = absurd (omega arith)

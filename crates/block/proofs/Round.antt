@@ -1,49 +1,18 @@
 -- The round trip of a block: a block holds these numbers exactly where it is made of them. Assumes nothing.
 use Prim.Native.Nat.{ℕ, zero, suc, _+_, _-_, _*_, _^_, _≤_, _<_}
-use native.Mathlib.Nat.{zero-add, suc-add}
 use native.Mathlib.Omega.{arith}
 use mathlib.Core.Path.{_≡_, refl, ap, sym, _∙_}
 use mathlib.Core.Bool.{Bool, true, false, not, _||_}
 use mathlib.Core.List.{List, [], _∷_}
-use lib.Dec.{eqb}
-use lib.ListN.{length, take, drop, getD, replicate}
-use lib.Seq.{take-nil}
-use borrow.Author.Tests.{eqb-true, not-false}
-use Rattle.answer.proofs.Bools.{and-true, or-false}
-use Rattle.block.specs.Bytes.{Bytes, value, number, laid, checkOf, allZero, zeros}
+use lib.ListN.{length, drop, getD, replicate}
+use borrow.Author.Tests.{not-false}
+use Rattle.answer.proofs.Bools.{or-false}
+use Rattle.block.specs.Bytes.{Bytes, number, laid, checkOf, zeros}
 use Rattle.block.specs.Layout.{kindIn, checkIn, editionIn, tasksIn, coresIn, commonIn, headerUnused, elasticityIn, modesIn, permittedIn, taskNumberIn, taskUnused, figuresIn, figuresFrom, flat}
-use Rattle.block.specs.Whole.{sealed, headerWidths, headerBytes, taskWidths, taskBytes}
-use Rattle.block.proofs.Laid.{Fit, total, length-laid, bytes-laid, fields, again}
-use Rattle.block.proofs.Whole.{length-sealed, sealed-zeros, sealed-check, sealed-bytes, sealed-fields, resealed}
-
--- ---- a field that has to be zero, as a number and as bytes
-all-zero-value : (l : List ℕ) → value l ≡ 0 → allZero l ≡ true
-unfolding value allZero
-all-zero-value [] e = refl
-all-zero-value (b ∷ l) e =
-    let first : b ≡ 0 = omega arith in
-    let rest : value l ≡ 0 = omega arith in
-    rw (first, all-zero-value l rest)
-
-value-all-zero : (l : List ℕ) → allZero l ≡ true → value l ≡ 0
-unfolding value allZero
-value-all-zero [] e = refl
-value-all-zero (b ∷ l) e =
-    let p = and-true (eqb b 0) (allZero l) e in
-    omega (arith, eqb-true b 0 (p .0), value-all-zero l (p .1))
-
-drop-take : (at w : ℕ) (s : List ℕ) → drop at (take (at + w) s) ≡ take w (drop at s)
-drop-take zero w s = rw zero-add
-drop-take (suc at) w [] = rw (suc-add, take-nil)
-drop-take (suc at) w (b ∷ s) = rw suc-add (drop-take at w s)
-
-zeros-number : (at w : ℕ) (s : List ℕ) → number w at s ≡ 0 → zeros at (at + w) s ≡ true
-unfolding number zeros
-zeros-number at w s e = rw drop-take (all-zero-value (take w (drop at s)) e)
-
-number-zeros : (at w : ℕ) (s : List ℕ) → zeros at (at + w) s ≡ true → number w at s ≡ 0
-unfolding number zeros
-number-zeros at w s z = value-all-zero (take w (drop at s)) (rw drop-take at z)
+use Rattle.block.specs.Whole.{headerWidths, headerBytes, taskWidths, taskBytes}
+use Rattle.block.proofs.Laid.{Fit, total, length-laid, bytes-laid, fields}
+use Rattle.block.proofs.Zeros.{zeros-number, number-zeros}
+use Rattle.block.proofs.Whole.{sealed-bytes, made, remade}
 
 -- no byte of two runs is other than zero
 unused : (a b : Bool) → (not a || not b) ≡ false → (a ≡ true) × (b ≡ true)
@@ -76,20 +45,17 @@ module _ (n m H : ℕ) where
   pub header-holds : n < 256 ^ 2 → m < 256 ^ 2 → H < 256 ^ 4 → HoldsHeader n m H (headerBytes n m H)
   unfolding headerBytes headerWidths fields
   header-holds a b c =
-      let f = header-fit a b c in
-      let s = laid headerWidths header-numbers in
-      let short : length s ≤ 508 = omega (arith, header-long f) in
-      let at : (i : ℕ) → _ = λ i. ap (λ (l : List ℕ). getD l i 0) (sealed-fields headerWidths header-numbers f) in
-      let behind : zeros 12 508 (headerBytes n m H) ≡ true = rw (header-long f) at (sealed-zeros s short) in
+      let h = made headerWidths header-numbers (header-fit a b c) (omega arith) in
+      let at : (i : ℕ) → _ = λ i. ap (λ (l : List ℕ). getD l i 0) (h .read) in
       record {
-        long = length-sealed s short;
-        check = sealed-check s short (bytes-laid _ _);
+        long = h .long;
+        check = h .check;
         kind = at 0;
         edition = at 1;
         tasks = at 2;
         cores = at 3;
         common = at 5;
-        spare = rw (zeros-number 6 2 (headerBytes n m H) (at 4), behind);
+        spare = rw (zeros-number 6 2 (headerBytes n m H) (at 4), h .spare);
       }
 
   pub header-bytes : Bytes (headerBytes n m H)
@@ -102,8 +68,8 @@ module _ (n m H : ℕ) where
   header-again block b h =
       let z = unused (zeros 6 8 block) (zeros 12 508 block) (h .spare) in
       let spare : number 2 6 block ≡ 0 = number-zeros 6 2 block (z .0) in
-      let r = again headerWidths block 0 b (omega (arith, h .long)) in
-      ap sealed (rw (h .kind, h .edition, h .tasks, h .cores, spare, h .common) at r) ∙ resealed block 12 (h .long) (omega arith) b (h .check) (z .1)
+      let read : fields headerWidths 0 block ≡ header-numbers = rw (h .kind, h .edition, h .tasks, h .cores, spare, h .common) in
+      remade headerWidths header-numbers block b (omega arith) (record { long = h .long; check = h .check; read = read; spare = z .1 })
 
 -- ---- a task
 -- its figures, as numbers one after the other
@@ -166,22 +132,20 @@ module _ (num E modes permitted : ℕ) (figures : List ℕ) where
   pub task-holds : TaskFits num E modes permitted figures → HoldsTask num E modes permitted figures (taskBytes num E modes permitted figures)
   unfolding taskBytes taskWidths fields
   task-holds t =
-      let f = task-fit t in
-      let s = laid (taskWidths modes) task-numbers in
+      let n = total-task modes in
+      let h = made (taskWidths modes) task-numbers (task-fit t) (omega (arith, t .few)) in
       let block = taskBytes num E modes permitted figures in
-      let short : length s ≤ 508 = omega (arith, task-long f, t .few) in
-      let read = sealed-fields (taskWidths modes) task-numbers f in
-      let at : (i : ℕ) → _ = λ i. ap (λ (l : List ℕ). getD l i 0) read in
-      let behind : zeros (8 + 12 * modes) 508 block ≡ true = rw (task-long f) at (sealed-zeros s short) in
+      let at : (i : ℕ) → _ = λ i. ap (λ (l : List ℕ). getD l i 0) (h .read) in
+      let behind : zeros (8 + 12 * modes) 508 block ≡ true = rw n at (h .spare) in
       record {
-        long = length-sealed s short;
-        check = sealed-check s short (bytes-laid _ _);
+        long = h .long;
+        check = h .check;
         kind = at 0;
         number = at 5;
         elasticity = at 1;
         count = at 2;
         mask = at 4;
-        listing = sym (fields-flat modes 0 block) ∙ ap (drop 6) read;
+        listing = sym (fields-flat modes 0 block) ∙ ap (drop 6) (h .read);
         spare = rw (zeros-number 3 1 block (at 3), at 2, behind);
       }
 
@@ -194,8 +158,10 @@ module _ (num E modes permitted : ℕ) (figures : List ℕ) where
       → taskBytes num E modes permitted figures ≡ block
   unfolding taskBytes taskWidths fields
   task-again block b few h =
+      let n = total-task modes in
       let z = unused (zeros 3 4 block) (zeros (8 + 12 * modesIn block) 508 block) (h .spare) in
       let spare : number 1 3 block ≡ 0 = number-zeros 3 1 block (z .0) in
-      let r = again (taskWidths modes) block 0 b (omega (arith, h .long, total-task modes)) in
-      ap sealed (rw (h .kind, h .elasticity, h .count, spare, h .mask, h .number, fields-flat modes 0 block, h .listing, total-task modes) at r)
-      ∙ resealed block (8 + 12 * modes) (h .long) (omega arith) b (h .check) (rw (h .count) at (z .1))
+      let read : fields (taskWidths modes) 0 block ≡ task-numbers =
+      rw (h .kind, h .elasticity, h .count, spare, h .mask, h .number, fields-flat modes 0 block, h .listing) in
+      let behind : zeros (total (taskWidths modes)) 508 block ≡ true = rw (n, ← h .count) (z .1) in
+      remade (taskWidths modes) task-numbers block b (omega arith) (record { long = h .long; check = h .check; read = read; spare = behind })

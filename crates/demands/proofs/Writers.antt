@@ -1,23 +1,22 @@
 -- What the writers write of lawful numbers, and what stands in a buffer that they have written. Assumes nothing.
-use Prim.Native.Nat.{ℕ, zero, suc, _+_, _-_, _*_, _^_, _≤_, _<_}
-use native.Mathlib.Nat.{le-of-dvd, dvd-of-mod-eq-zero}
+use Prim.Native.Nat.{ℕ, _+_, _-_, _≤_, _<_}
 use native.Mathlib.Omega.{arith}
 use mathlib.Core.Path.{_≡_, refl, sym, ap, _∙_}
-use mathlib.Core.List.{List, _∷_, _++_, append-nil}
+use mathlib.Core.List.{List, _++_, append-nil}
 use borrow.Author.Tests.{le-ltb, eq-eqb}
-use lib.ListN.{length, drop, getD, replicate}
+use lib.ListN.{length, drop, replicate}
 use Rattle.answer.specs.Said.{written}
 use Rattle.answer.specs.Order.{Row, Outcome, NoneGiven}
 use Rattle.answer.proofs.Rows.{append-none}
 use Rattle.answer.proofs.Outcomes.{goes, gone}
-use Rattle.block.specs.Layout.{Figures, figuresFrom, flat, threes}
+use Rattle.block.specs.Layout.{threes}
 use Rattle.block.specs.Tests.{modesRows}
 use Rattle.block.specs.Whole.{headerBytes, taskBytes}
-use Rattle.block.proofs.Figures.{threes-flat}
+use Rattle.block.proofs.Figures.{threes-flat, length-flat, flat-small}
 use Rattle.block.proofs.Round.{HoldsHeader, header-holds, HoldsTask, task-holds}
 use Rattle.table.specs.Numbers.{TaskNumbers, figuresOf}
 use Rattle.table.specs.Lawful.{LawfulHeader, LawfulTask, LawfulFigures}
-use Rattle.table.proofs.Limits.{header-passes, common-passes, shape-passes, permitted-passes}
+use Rattle.table.proofs.Limits.{header-passes, common-passes, shape-passes, permitted-passes, figures-small}
 use Rattle.table.proofs.Held.{modes-pass}
 use Rattle.writer.specs.Order.{numberRows, roomRows, writeHeaderRows, writeTaskRows}
 use Rattle.demands.specs.Demand2.{HeaderWrites, TaskWrites}
@@ -56,38 +55,6 @@ pub header-wrote : (n m H : ℕ) (block : List ℕ) → HeaderWrites n m H block
 header-wrote n m H block w = wrote (writeHeaderRows n m H) (headerBytes n m H) block w
 
 -- ---- a task
-length-flat : (figures : ℕ → Figures) (j left : ℕ) → length (flat (figuresFrom figures j left)) ≡ 3 * left
-unfolding flat figuresFrom
-length-flat figures j zero = refl
-length-flat figures j (suc left) = omega (arith, length-flat figures (j + 1) left)
-
--- lawful figures fit 32 bits
-pub record Small (f : Figures) : Type 0 where
-  pub work : f .work < 256 ^ 4
-  pub span : f .span < 256 ^ 4
-  pub period : f .period < 256 ^ 4
-
-figures-small : (H : ℕ) (f : Figures) → 1 ≤ H → H ≤ 100000 → LawfulFigures H f → Small f
-figures-small H f low high l =
-    let T : f .period ≤ H = le-of-dvd low (dvd-of-mod-eq-zero (f .period) (l .divides)) in
-    record { work = omega (arith, l .work-high); span = omega (arith, l .work-high, l .span-high); period = omega arith }
-
-cons-small : (x : ℕ) (xs : List ℕ) → x < 256 ^ 4 → ((i : ℕ) → getD xs i 0 < 256 ^ 4) → (i : ℕ) → getD (x ∷ xs) i 0 < 256 ^ 4
-cons-small x xs h t zero = h
-cons-small x xs h t (suc i) = t i
-
-flat-small : (figures : ℕ → Figures) (j left : ℕ) → ((k : ℕ) → j ≤ k → k < j + left → Small (figures k))
-    → (i : ℕ) → getD (flat (figuresFrom figures j left)) i 0 < 256 ^ 4
-unfolding flat figuresFrom
-flat-small figures j zero h i = omega arith
-flat-small figures j (suc left) h i =
-    let f = h j (omega arith) (omega arith) in
-    let rest = flat-small figures (j + 1) left (λ k low high. h k (omega arith) (omega arith)) in
-    let xs = flat (figuresFrom figures (j + 1) left) in
-    let T = figures j .period in
-    let L = figures j .span in
-    cons-small (figures j .work) (L ∷ T ∷ xs) (f .work) (cons-small L (T ∷ xs) (f .span) (cons-small T xs (f .period) rest)) i
-
 -- a task's rows and its block
 abbrev task-rows : ℕ → ℕ → TaskNumbers → ℕ → List Row
 task-rows H i t room = writeTaskRows H i (t .elasticity) (t .modes) (t .permitted) (figuresOf t) room

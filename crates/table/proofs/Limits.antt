@@ -1,5 +1,6 @@
--- Numbers that pass the tests are lawful, and lawful numbers pass them. Assumes nothing.
+-- Numbers that pass the tests are lawful, lawful numbers pass them, and lawful figures are small. Assumes nothing.
 use Prim.Native.Nat.{ℕ, _*_, _-_, _%_, _^_, _≤_, _<_}
+use native.Mathlib.Nat.{le-of-dvd, dvd-of-mod-eq-zero}
 use native.Mathlib.Omega.{arith}
 use native.Mathlib.Decide.{decLt}
 use mathlib.Core.Path.{_≡_, sym, _∙_}
@@ -11,6 +12,7 @@ use Rattle.answer.proofs.Bools.{clash, or-false}
 use Rattle.model.specs.Rules.{meets}
 use Rattle.block.specs.Layout.{Figures}
 use Rattle.block.specs.Tests.{outside, wrongCommon, wrongLimits, wrongShape, allows, anyAllowed, wrongPermitted, wrongPeriod, wrongWork, figureRows}
+use Rattle.block.proofs.Figures.{Small}
 use Rattle.block.proofs.Masks.{allows-none, Allowed, any-found, any-none, any-is, any-are-not}
 use Rattle.table.specs.Numbers.{TaskNumbers}
 use Rattle.table.specs.Lawful.{LawfulHeader, LawfulTask, LawfulFigures}
@@ -122,3 +124,9 @@ figures-pass at H f l =
       le-ltb (64 * f .period) (f .work) (l .work-high),
     ) in
     (eleven, (twelve, (rw (l .meeting), tt)))
+
+-- ---- lawful figures fit 32 bits
+pub figures-small : (H : ℕ) (f : Figures) → 1 ≤ H → H ≤ 100000 → LawfulFigures H f → Small f
+figures-small H f low high l =
+    let T : f .period ≤ H = le-of-dvd low (dvd-of-mod-eq-zero (f .period) (l .divides)) in
+    record { work = omega (arith, l .work-high); span = omega (arith, l .work-high, l .span-high); period = omega arith }

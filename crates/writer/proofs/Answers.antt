@@ -4,12 +4,11 @@ use Prim.Native.Nat.{ℕ, zero, suc}
 use native.Mathlib.Omega.{arith}
 use mathlib.Core.Path.{_≡_, refl, sym, ap, _∙_}
 use mathlib.Core.List.{List, [], _∷_, _++_}
-use mathlib.Core.Bool.{true, false}
 use types.Run.{OneOf, miss}
 use denote.Enum.Declared.{tagOf}
 use Rattle.answer.specs.Said.{Said, refused, header, task, figures, needs, filled, plan, written}
-use Rattle.answer.specs.Order.{Row, row, first}
-use Rattle.answer.proofs.Rows.{kind, stop, first-none, none-first, first-append}
+use Rattle.answer.specs.Order.{Row, first}
+use Rattle.answer.proofs.Rows.{kind, kind-refused, stop, first-none, none-first, first-append}
 use Rattle.answer.proofs.Elses.{Tells}
 use Rattle.table.specs.declared.Reading.{Reading}
 use Rattle.table.specs.declared.Reading.the-variants as reading
@@ -64,11 +63,6 @@ none-handed-on (reading.Refused r) one = absurd (miss (1 ∷ 2 ∷ 3 ∷ []) 0 t
 none-handed-on (reading.Header n m H) one = refl
 none-handed-on (reading.Task E modes permitted) one = refl
 none-handed-on (reading.Figures C L T) one = refl
-
-kind-refused : (A : List Row) → kind (first A (refused 0 0)) ≡ 0
-kind-refused [] = refl
-kind-refused (row n k true ∷ A) = refl
-kind-refused (row n k false ∷ A) = kind-refused A
 
 -- what its rows give whatever the rest is a refusal, and is given still
 pub rows-handed-on : (A : List Row) (r : Reading) (s : Said) → ((t : Said) → readings.reading .said r ≡ first A t) → said (handedOn r) ≡ first A s
