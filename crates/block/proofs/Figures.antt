@@ -35,6 +35,13 @@ module _ (figures : ℕ → Figures) (at H : ℕ) where
   modes-end j modes s p = let e : modes - j ≡ 0 = omega arith in ap (λ (k : ℕ). first (modesRows at H (figuresFrom figures j k)) s) e
 
 -- the same of figures that are lent
+threes-end : (xs : List ℕ) → length xs < 3 → threes xs ≡ []
+unfolding threes
+threes-end [] h = refl
+threes-end (a ∷ []) h = refl
+threes-end (a ∷ b ∷ []) h = refl
+threes-end (a ∷ b ∷ c ∷ xs) h = absurd (omega arith)
+
 module _ (lent : List ℕ) (at H : ℕ) where
   threes-more : (from : ℕ) → 3 ≤ length lent - from
       → threes (drop from lent) ≡ listed (getD lent from 0) (getD lent (from + 1) 0) (getD lent (from + 2) 0) ∷ threes (drop (from + 3) lent)
@@ -44,13 +51,6 @@ module _ (lent : List ℕ) (at H : ℕ) where
       let two : suc (from + 1) ≡ from + 2 = omega arith in
       let three : suc (from + 2) ≡ from + 3 = omega arith in
       rw (drop-cons lent from 0 (omega arith), one, drop-cons lent (from + 1) 0 (omega arith), two, drop-cons lent (from + 2) 0 (omega arith), three)
-
-  threes-end : (xs : List ℕ) → length xs < 3 → threes xs ≡ []
-  unfolding threes
-  threes-end [] h = refl
-  threes-end (a ∷ []) h = refl
-  threes-end (a ∷ b ∷ []) h = refl
-  threes-end (a ∷ b ∷ c ∷ xs) h = absurd (omega arith)
 
   pub lent-more : (from : ℕ) (s : Said) → 3 ≤ length lent - from
       → first (modesRows at H (threes (drop from lent))) s

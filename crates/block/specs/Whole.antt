@@ -8,7 +8,7 @@ use Rattle.block.specs.Bytes.{asBytes, laid, checkOf}
 unfoldable pub body : List ℕ → List ℕ
 body s = s ++ replicate (508 - length s) 0
 
--- 512 bytes: the body and its check
+-- the body and its check: 512 bytes, since those with a meaning are at most 508
 unfoldable pub sealed : List ℕ → List ℕ
 sealed s = body s ++ asBytes 4 (checkOf (body s))
 

@@ -17,13 +17,14 @@ use Rattle.writer.specs.Said.{said}
 abbrev pub roomRows : ℕ → List Row
 roomRows room = row 15 0 (ltb room 512) ∷ []
 
+-- ---- header: 5: n, m or H beyond its limits; 15
 abbrev pub limitRows : ℕ → ℕ → ℕ → List Row
 limitRows n m H = row 5 0 (wrongLimits n m H) ∷ []
 
 unfoldable pub writeHeaderRows : ℕ → ℕ → ℕ → ℕ → List Row
 writeHeaderRows n m H room = limitRows n m H ++ roomRows room
 
--- 9 also if the figures lent aren't three per mode
+-- ---- task: 5: H beyond its limits; 8: number above 31; 9: also if the figures lent aren't three per mode; 10; 11 to 13 by mode; 15
 abbrev pub numberRows : ℕ → ℕ → ℕ → ℕ → ℕ → ℕ → List Row
 numberRows H number E modes permitted lent =
     row 5 0 (wrongCommon H)
@@ -36,7 +37,7 @@ unfoldable pub writeTaskRows : ℕ → ℕ → ℕ → ℕ → ℕ → List ℕ 
 writeTaskRows H number E modes permitted figures room =
     numberRows H number E modes permitted (length figures) ++ (modesRows 0 H (threes figures) ++ roomRows room)
 
--- the answer and the buffer afterwards: 512 bytes are written, those after them stay, and under a refusal all of them
+-- ---- the answer and the buffer afterwards: 512 bytes are written, those after them stay, and under a refusal all of them
 abbrev pub WroteHeader : ℕ → ℕ → ℕ → List ℕ → Written → List ℕ → Type 0
 WroteHeader n m H before r after =
     Outcome (writeHeaderRows n m H (length before)) written before (headerBytes n m H ++ drop 512 before) (said r) after
