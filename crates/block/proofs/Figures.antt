@@ -1,16 +1,15 @@
 -- Laws of the modes in turn: the order of their refusals, and their figures as they are lent. Assumes nothing.
 use Prim.Native.Nat.{ℕ, zero, suc, _+_, _-_, _*_, _^_, _≤_, _<_}
-use native.Mathlib.Nat.{eq-or-lt-of-le}
 use native.Mathlib.Omega.{arith}
-use mathlib.Core.Logic.{⊎-elim}
-use mathlib.Core.Path.{_≡_, refl, sym, ap, subst, _∙_}
+use mathlib.Core.Path.{_≡_, refl, sym, ap, _∙_}
 use mathlib.Core.List.{List, [], _∷_}
 use lib.ListN.{length, drop, getD, length-drop}
 use lib.Seq.{drop-cons}
 use Rattle.answer.specs.Said.{Said}
 use Rattle.answer.specs.Order.{first}
 use Rattle.answer.proofs.Rows.{first-append}
-use Rattle.block.specs.Layout.{Figures, listed, figuresFrom, flat, threes}
+use Rattle.model.specs.Turns.{eachFrom}
+use Rattle.block.specs.Layout.{Figures, listed, flat, threes}
 use Rattle.block.specs.Tests.{figureRows, modesRows}
 
 -- ---- the order of refusals
@@ -22,17 +21,17 @@ one-first at H f fs s = first-append (figureRows at H f) (modesRows at H fs) s
 
 module _ (figures : ℕ → Figures) (at H : ℕ) where
   pub modes-more : (j modes : ℕ) (s : Said) → j < modes
-      → first (modesRows at H (figuresFrom figures j (modes - j))) s
-      ≡ first (figureRows at H (figures j)) (first (modesRows at H (figuresFrom figures (j + 1) (modes - (j + 1)))) s)
-  unfolding figuresFrom
+      → first (modesRows at H (eachFrom figures j (modes - j))) s
+      ≡ first (figureRows at H (figures j)) (first (modesRows at H (eachFrom figures (j + 1) (modes - (j + 1)))) s)
+  unfolding eachFrom
   modes-more j modes s p =
       let e : modes - j ≡ suc (modes - (j + 1)) = omega arith in
-      ap (λ (k : ℕ). first (modesRows at H (figuresFrom figures j k)) s) e
-      ∙ one-first at H (figures j) (figuresFrom figures (j + 1) (modes - (j + 1))) s
+      ap (λ (k : ℕ). first (modesRows at H (eachFrom figures j k)) s) e
+      ∙ one-first at H (figures j) (eachFrom figures (j + 1) (modes - (j + 1))) s
 
-  pub modes-end : (j modes : ℕ) (s : Said) → modes ≤ j → first (modesRows at H (figuresFrom figures j (modes - j))) s ≡ s
-  unfolding modesRows figuresFrom
-  modes-end j modes s p = let e : modes - j ≡ 0 = omega arith in ap (λ (k : ℕ). first (modesRows at H (figuresFrom figures j k)) s) e
+  pub modes-end : (j modes : ℕ) (s : Said) → modes ≤ j → first (modesRows at H (eachFrom figures j (modes - j))) s ≡ s
+  unfolding modesRows eachFrom
+  modes-end j modes s p = let e : modes - j ≡ 0 = omega arith in ap (λ (k : ℕ). first (modesRows at H (eachFrom figures j k)) s) e
 
 -- the same of figures that are lent
 threes-end : (xs : List ℕ) → length xs < 3 → threes xs ≡ []
@@ -64,21 +63,6 @@ module _ (lent : List ℕ) (at H : ℕ) where
   unfolding modesRows
   lent-end from s h = ap (λ (fs : List Figures). first (modesRows at H fs) s) (threes-end (drop from lent) (rw length-drop h))
 
--- ---- modes one by one, and in turn
-module _ (f g : ℕ → Figures) where
-  pub each-same : (j left : ℕ) → ((k : ℕ) → j ≤ k → k < j + left → f k ≡ g k) → figuresFrom f j left ≡ figuresFrom g j left
-  unfolding figuresFrom
-  each-same j zero e = refl
-  each-same j (suc left) e = rw (e j (omega arith) (omega arith), each-same (j + 1) left (λ k low high. e k (omega arith) (omega arith)))
-
-  pub same-each : (j left : ℕ) → figuresFrom f j left ≡ figuresFrom g j left → (k : ℕ) → j ≤ k → k < j + left → f k ≡ g k
-  unfolding figuresFrom
-  same-each j zero e k low high = absurd (omega arith)
-  same-each j (suc left) e k low high =
-      ⊎-elim (λ same. subst (λ (x : ℕ). f x ≡ g x) same (ap (λ (l : List Figures). getD l 0 (f j)) e))
-      (λ more. same-each (j + 1) left (ap (drop 1) e) k (omega arith) (omega arith))
-      (eq-or-lt-of-le low)
-
 -- ---- lent, three numbers for each mode
 pub threes-flat : (fs : List Figures) → threes (flat fs) ≡ fs
 unfolding threes flat
@@ -88,8 +72,8 @@ threes-flat (f ∷ fs) = ap (λ (l : List Figures). f ∷ l) (threes-flat fs)
 pub flat-same : (a b : List Figures) → flat a ≡ flat b → a ≡ b
 flat-same a b e = sym (threes-flat a) ∙ ap threes e ∙ threes-flat b
 
-pub length-flat : (figures : ℕ → Figures) (j left : ℕ) → length (flat (figuresFrom figures j left)) ≡ 3 * left
-unfolding flat figuresFrom
+pub length-flat : (figures : ℕ → Figures) (j left : ℕ) → length (flat (eachFrom figures j left)) ≡ 3 * left
+unfolding flat eachFrom
 length-flat figures j zero = refl
 length-flat figures j (suc left) = omega (arith, length-flat figures (j + 1) left)
 
@@ -104,13 +88,13 @@ cons-small x xs h t zero = h
 cons-small x xs h t (suc i) = t i
 
 pub flat-small : (figures : ℕ → Figures) (j left : ℕ) → ((k : ℕ) → j ≤ k → k < j + left → Small (figures k))
-    → (i : ℕ) → getD (flat (figuresFrom figures j left)) i 0 < 256 ^ 4
-unfolding flat figuresFrom
+    → (i : ℕ) → getD (flat (eachFrom figures j left)) i 0 < 256 ^ 4
+unfolding flat eachFrom
 flat-small figures j zero h i = omega arith
 flat-small figures j (suc left) h i =
     let f = h j (omega arith) (omega arith) in
     let rest = flat-small figures (j + 1) left (λ k low high. h k (omega arith) (omega arith)) in
-    let xs = flat (figuresFrom figures (j + 1) left) in
+    let xs = flat (eachFrom figures (j + 1) left) in
     let T = figures j .period in
     let L = figures j .span in
     cons-small (figures j .work) (L ∷ T ∷ xs) (f .work) (cons-small L (T ∷ xs) (f .span) (cons-small T xs (f .period) rest)) i

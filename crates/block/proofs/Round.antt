@@ -8,7 +8,8 @@ use lib.ListN.{length, drop, getD, replicate}
 use borrow.Author.Tests.{not-false}
 use Rattle.answer.proofs.Bools.{or-false}
 use Rattle.block.specs.Bytes.{Bytes, number, laid, checkOf, zeros}
-use Rattle.block.specs.Layout.{kindIn, checkIn, editionIn, tasksIn, coresIn, commonIn, headerUnused, elasticityIn, modesIn, permittedIn, taskNumberIn, taskUnused, figuresIn, figuresFrom, flat}
+use Rattle.model.specs.Turns.{eachFrom}
+use Rattle.block.specs.Layout.{kindIn, checkIn, editionIn, tasksIn, coresIn, commonIn, headerUnused, elasticityIn, modesIn, permittedIn, taskNumberIn, taskUnused, figuresIn, flat}
 use Rattle.block.specs.Whole.{headerWidths, headerBytes, taskWidths, taskBytes}
 use Rattle.block.proofs.Laid.{Fit, total, length-laid, bytes-laid, fields}
 use Rattle.block.proofs.Zeros.{zeros-number, number-zeros}
@@ -73,8 +74,8 @@ module _ (n m H : ℕ) where
 
 -- ---- a task
 -- its figures, as numbers one after the other
-fields-flat : (left j : ℕ) (s : List ℕ) → fields (replicate (3 * left) 4) (8 + 12 * j) s ≡ flat (figuresFrom (figuresIn s) j left)
-unfolding fields flat figuresFrom
+fields-flat : (left j : ℕ) (s : List ℕ) → fields (replicate (3 * left) 4) (8 + 12 * j) s ≡ flat (eachFrom (figuresIn s) j left)
+unfolding fields flat eachFrom
 fields-flat zero j s = refl
 fields-flat (suc left) j s =
     let three : 3 * suc left ≡ suc (suc (suc (3 * left))) = omega arith in
@@ -91,7 +92,7 @@ pub record HoldsTask (num E modes permitted : ℕ) (figures block : List ℕ) : 
   pub elasticity : elasticityIn block ≡ E
   pub count : modesIn block ≡ modes
   pub mask : permittedIn block ≡ permitted
-  pub listing : flat (figuresFrom (figuresIn block) 0 modes) ≡ figures
+  pub listing : flat (eachFrom (figuresIn block) 0 modes) ≡ figures
   pub spare : taskUnused block ≡ false
 
 -- the numbers fit a task block

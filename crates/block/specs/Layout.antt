@@ -1,5 +1,5 @@
 -- Where each number of a block stands.
-use Prim.Native.Nat.{ℕ, zero, suc, _+_, _*_}
+use Prim.Native.Nat.{ℕ, _+_, _*_}
 use mathlib.Core.Bool.{Bool, not, _||_}
 use mathlib.Core.List.{List, [], _∷_}
 use Rattle.block.specs.Bytes.{number, zeros}
@@ -57,11 +57,6 @@ listed C L T = record { work = C; span = L; period = T }
 -- those of mode j
 abbrev pub figuresIn : List ℕ → ℕ → Figures
 figuresIn block j = listed (number 4 (8 + 12 * j) block) (number 4 (12 + 12 * j) block) (number 4 (16 + 12 * j) block)
-
--- and of the modes in turn, left of them from j on
-unfoldable pub figuresFrom : (ℕ → Figures) → ℕ → ℕ → List Figures
-figuresFrom figures j zero = []
-figuresFrom figures j (suc left) = figures j ∷ figuresFrom figures (j + 1) left
 
 -- as they are lent to the writer: three numbers for each mode
 unfoldable pub flat : List Figures → List ℕ

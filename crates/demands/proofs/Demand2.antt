@@ -8,9 +8,11 @@ use Rattle.answer.specs.Said.{header, task, figures}
 use Rattle.answer.specs.Order.{NoneGiven}
 use Rattle.answer.proofs.Rows.{first-none}
 use Rattle.block.specs.Bytes.{Bytes}
-use Rattle.block.specs.Layout.{elasticityIn, modesIn, permittedIn, figuresIn, figuresFrom, flat}
+use Rattle.model.specs.Turns.{eachFrom}
+use Rattle.block.specs.Layout.{elasticityIn, modesIn, permittedIn, figuresIn, flat}
 use Rattle.block.specs.Whole.{headerBytes}
-use Rattle.block.proofs.Figures.{each-same, same-each, flat-same}
+use Rattle.model.proofs.Turns.{each-same, same-each}
+use Rattle.block.proofs.Figures.{flat-same}
 use Rattle.block.proofs.Round.{HoldsHeader, header-bytes, header-again, HoldsTask, task-bytes, task-again}
 use Rattle.table.specs.Order.{blockAt, headerBlock, taskBlock, headerSaid, taskSaid, figuresSaid, tableRows}
 use Rattle.table.specs.Numbers.{figuresOf, Numbers, numbersIn}
@@ -113,7 +115,7 @@ reads t bytes h p =
       each-mode = λ i j less few.
           let a = t .task i in
           let b = h .task i less in
-          let same : figuresFrom (figuresIn (taskBlock bytes i)) 0 (a .modes) ≡ figuresFrom (a .figures) 0 (a .modes) = flat-same _ _ (b .listing) in
+          let same : eachFrom (figuresIn (taskBlock bytes i)) 0 (a .modes) ≡ eachFrom (a .figures) 0 (a .modes) = flat-same _ _ (b .listing) in
           mode-asked bytes p i j (rw (h .header .tasks) less) (rw (b .count) few)
           ∙ ap figuresSaid (same-each (figuresIn (taskBlock bytes i)) (a .figures) 0 (a .modes) same j (omega arith) (omega arith));
     }

@@ -1,5 +1,6 @@
 pub mod Rules
 pub mod Said
+pub mod Turns
 pub mod Plan
 pub mod Listing
 pub mod Cells

@@ -10,7 +10,8 @@ use Rattle.answer.specs.Order.{row, NoneGiven}
 use Rattle.answer.proofs.Rows.{none-append, none-first, first-none}
 use Rattle.answer.proofs.Elses.{passed, answered}
 use Rattle.block.specs.Bytes.{Bytes}
-use Rattle.block.specs.Layout.{tasksIn, coresIn, commonIn, modesIn, taskNumberIn, figuresIn, figuresFrom}
+use Rattle.model.specs.Turns.{eachFrom}
+use Rattle.block.specs.Layout.{tasksIn, coresIn, commonIn, modesIn, taskNumberIn, figuresIn}
 use Rattle.block.specs.Tests.{figureRows, modesRows}
 use Rattle.block.proofs.Laid.{number-small}
 use Rattle.table.specs.declared.Reading.{Reading}
@@ -23,20 +24,20 @@ use Rattle.table.proofs.Blocks.{bytes-block}
 use Rattle.table.proofs.Limits.{is, header-lawful, task-lawful, figures-lawful}
 
 -- each of the modes, and each of the tasks
-modes-none : (at H : ℕ) (block : List ℕ) (left j : ℕ) → NoneGiven (modesRows at H (figuresFrom (figuresIn block) j left))
+modes-none : (at H : ℕ) (block : List ℕ) (left j : ℕ) → NoneGiven (modesRows at H (eachFrom (figuresIn block) j left))
     → (k : ℕ) → j ≤ k → k < j + left → NoneGiven (figureRows at H (figuresIn block k))
-unfolding modesRows figuresFrom
+unfolding modesRows eachFrom
 modes-none at H block zero j p k low high = absurd (omega arith)
 modes-none at H block (suc left) j p k low high =
-    let r = none-append (figureRows at H (figuresIn block j)) (modesRows at H (figuresFrom (figuresIn block) (j + 1) left)) p in
+    let r = none-append (figureRows at H (figuresIn block j)) (modesRows at H (eachFrom (figuresIn block) (j + 1) left)) p in
     ⊎-elim (λ e. subst (λ (x : ℕ). NoneGiven (figureRows at H (figuresIn block x))) e (r .0))
     (λ more. modes-none at H block left (j + 1) (r .1) k (omega arith) (omega arith))
     (eq-or-lt-of-le low)
 
 whole-none : (H i at : ℕ) (block : List ℕ) → NoneGiven (wholeTaskRows H i at block)
-    → NoneGiven (taskRows i at block) × NoneGiven (modesRows at H (figuresFrom (figuresIn block) 0 (modesIn block)))
+    → NoneGiven (taskRows i at block) × NoneGiven (modesRows at H (eachFrom (figuresIn block) 0 (modesIn block)))
 unfolding wholeTaskRows
-whole-none H i at block p = none-append (taskRows i at block) (modesRows at H (figuresFrom (figuresIn block) 0 (modesIn block))) p
+whole-none H i at block p = none-append (taskRows i at block) (modesRows at H (eachFrom (figuresIn block) 0 (modesIn block))) p
 
 module _ (bytes : List ℕ) where
   tasks-none : (H left i : ℕ) → NoneGiven (tasksRows bytes H i left) → (k : ℕ) → i ≤ k → k < i + left
@@ -62,7 +63,7 @@ module _ (bytes : List ℕ) where
 
   pub task-none : NoneGiven (tableRows bytes) → (i : ℕ) → i < tasksIn (headerBlock bytes)
       → NoneGiven (taskRows i (i + 1) (taskBlock bytes i)) × NoneGiven
-      (modesRows (i + 1) (commonIn (headerBlock bytes)) (figuresFrom (figuresIn (taskBlock bytes i)) 0 (modesIn (taskBlock bytes i))))
+      (modesRows (i + 1) (commonIn (headerBlock bytes)) (eachFrom (figuresIn (taskBlock bytes i)) 0 (modesIn (taskBlock bytes i))))
   task-none p i h =
       whole-none (commonIn (headerBlock bytes)) i (i + 1) (taskBlock bytes i)
       (tasks-none (commonIn (headerBlock bytes)) (tasksIn (headerBlock bytes)) 0 (table-none p .1) i (omega arith) (omega arith))

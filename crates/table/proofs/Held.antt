@@ -7,7 +7,8 @@ use borrow.Author.Tests.{eq-eqb, ne-eqb, lt-leb}
 use lib.ListN.{length}
 use Rattle.answer.specs.Order.{row, NoneGiven}
 use Rattle.answer.proofs.Rows.{append-none, none-first}
-use Rattle.block.specs.Layout.{tasksIn, commonIn, modesIn, Figures, figuresIn, figuresFrom}
+use Rattle.model.specs.Turns.{eachFrom}
+use Rattle.block.specs.Layout.{tasksIn, commonIn, modesIn, Figures, figuresIn}
 use Rattle.block.specs.Tests.{figureRows, modesRows}
 use Rattle.block.proofs.Figures.{flat-same}
 use Rattle.block.proofs.Round.{HoldsHeader, HoldsTask}
@@ -52,18 +53,18 @@ header-none block h l = (
 
 -- lawful modes pass, whatever place a refusal would name
 pub modes-pass : (at H : ℕ) (figures : ℕ → Figures) (j left : ℕ) → ((k : ℕ) → j ≤ k → k < j + left → LawfulFigures H (figures k))
-    → NoneGiven (modesRows at H (figuresFrom figures j left))
-unfolding modesRows figuresFrom
+    → NoneGiven (modesRows at H (eachFrom figures j left))
+unfolding modesRows eachFrom
 modes-pass at H figures j zero l = tt
 modes-pass at H figures j (suc left) l =
-    append-none (figureRows at H (figures j)) (modesRows at H (figuresFrom figures (j + 1) left))
+    append-none (figureRows at H (figures j)) (modesRows at H (eachFrom figures (j + 1) left))
     (figures-pass at H (figures j) (l j (omega arith) (omega arith)))
     (modes-pass at H figures (j + 1) left (λ k low high. l k (omega arith) (omega arith)))
 
 module _ (i at H : ℕ) (t : TaskNumbers) (block : List ℕ) (h : HoldsTask i (t .elasticity) (t .modes) (t .permitted) (figuresOf t) block) where
   -- the block lists the task's figures
-  listing-same : figuresFrom (figuresIn block) 0 (modesIn block) ≡ figuresFrom (t .figures) 0 (t .modes)
-  listing-same = rw (h .count) (flat-same (figuresFrom (figuresIn block) 0 (t .modes)) (figuresFrom (t .figures) 0 (t .modes)) (h .listing))
+  listing-same : eachFrom (figuresIn block) 0 (modesIn block) ≡ eachFrom (t .figures) 0 (t .modes)
+  listing-same = rw (h .count) (flat-same (eachFrom (figuresIn block) 0 (t .modes)) (eachFrom (t .figures) 0 (t .modes)) (h .listing))
 
   whole-task-none : LawfulTask t → ((j : ℕ) → j < t .modes → LawfulFigures H (t .figures j)) → NoneGiven (wholeTaskRows H i at block)
   unfolding wholeTaskRows
@@ -78,7 +79,7 @@ module _ (i at H : ℕ) (t : TaskNumbers) (block : List ℕ) (h : HoldsTask i (t
           ),
         ),
       ) in
-      append-none (taskRows i at block) (modesRows at H (figuresFrom (figuresIn block) 0 (modesIn block))) own
+      append-none (taskRows i at block) (modesRows at H (eachFrom (figuresIn block) 0 (modesIn block))) own
       (rw listing-same (modes-pass at H (t .figures) 0 (t .modes) (λ k low high. m k (omega arith))))
 
 tasks-pass : (bytes : List ℕ) (H i left : ℕ) → ((k : ℕ) → i ≤ k → k < i + left → NoneGiven (wholeTaskRows H k (k + 1) (taskBlock bytes k)))

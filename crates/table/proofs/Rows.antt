@@ -8,15 +8,16 @@ use lib.Dec.{leb}
 use Rattle.answer.specs.Said.{Said, refused}
 use Rattle.answer.specs.Order.{row, first}
 use Rattle.answer.proofs.Rows.{first-append}
-use Rattle.block.specs.Layout.{tasksIn, commonIn, modesIn, figuresIn, figuresFrom}
+use Rattle.model.specs.Turns.{eachFrom}
+use Rattle.block.specs.Layout.{tasksIn, commonIn, modesIn, figuresIn}
 use Rattle.block.specs.Tests.{modesRows}
 use Rattle.table.specs.Order.{headerBlock, taskBlock, wrongLength, otherLength, headerRows, taskRows, wholeTaskRows, frontRows, tasksRows, tableRows, askTaskRows, askModeRows}
 
 -- a task's block, then its modes
 pub whole-first : (H i at : ℕ) (block : List ℕ) (s : Said)
-    → first (wholeTaskRows H i at block) s ≡ first (taskRows i at block) (first (modesRows at H (figuresFrom (figuresIn block) 0 (modesIn block))) s)
+    → first (wholeTaskRows H i at block) s ≡ first (taskRows i at block) (first (modesRows at H (eachFrom (figuresIn block) 0 (modesIn block))) s)
 unfolding wholeTaskRows
-whole-first H i at block s = first-append (taskRows i at block) (modesRows at H (figuresFrom (figuresIn block) 0 (modesIn block))) s
+whole-first H i at block s = first-append (taskRows i at block) (modesRows at H (eachFrom (figuresIn block) 0 (modesIn block))) s
 
 module _ (bytes : List ℕ) where
   -- the length, the header, the length again

@@ -1,7 +1,8 @@
 -- The numbers of a table, as asking gives them: of each task below their count, and of each mode below the task's mode count.
 use Prim.Native.Nat.{ℕ}
 use mathlib.Core.List.{List}
-use Rattle.block.specs.Layout.{tasksIn, coresIn, commonIn, elasticityIn, modesIn, permittedIn, Figures, figuresIn, figuresFrom, flat}
+use Rattle.model.specs.Turns.{eachFrom}
+use Rattle.block.specs.Layout.{tasksIn, coresIn, commonIn, elasticityIn, modesIn, permittedIn, Figures, figuresIn, flat}
 use Rattle.table.specs.Order.{headerBlock, taskBlock}
 
 pub record TaskNumbers : Type 0 where
@@ -12,7 +13,7 @@ pub record TaskNumbers : Type 0 where
 
 -- its figures, three numbers for each mode in turn, as they are lent to the writer
 abbrev pub figuresOf : TaskNumbers → List ℕ
-figuresOf t = flat (figuresFrom (t .figures) 0 (t .modes))
+figuresOf t = flat (eachFrom (t .figures) 0 (t .modes))
 
 pub record Numbers : Type 0 where
   pub tasks : ℕ

@@ -8,7 +8,8 @@ use lib.ListN.{length, take, drop}
 use Rattle.answer.specs.Said.{Said, header, task, figures}
 use Rattle.answer.specs.Order.{Row, row, first}
 use Rattle.block.specs.Bytes.{checkOf}
-use Rattle.block.specs.Layout.{kindIn, checkIn, editionIn, tasksIn, coresIn, commonIn, headerUnused, elasticityIn, modesIn, permittedIn, taskNumberIn, taskUnused, Figures, figuresIn, figuresFrom}
+use Rattle.model.specs.Turns.{eachFrom}
+use Rattle.block.specs.Layout.{kindIn, checkIn, editionIn, tasksIn, coresIn, commonIn, headerUnused, elasticityIn, modesIn, permittedIn, taskNumberIn, taskUnused, Figures, figuresIn}
 use Rattle.block.specs.Tests.{wrongLimits, wrongShape, wrongPermitted, modesRows}
 
 -- block k of the bytes: blocks of 512 bytes, counted from 0
@@ -61,7 +62,7 @@ figuresSaid f = figures (f .work) (f .span) (f .period)
 
 -- and its modes
 unfoldable pub wholeTaskRows : ℕ → ℕ → ℕ → List ℕ → List Row
-wholeTaskRows H i at block = taskRows i at block ++ modesRows at H (figuresFrom (figuresIn block) 0 (modesIn block))
+wholeTaskRows H i at block = taskRows i at block ++ modesRows at H (eachFrom (figuresIn block) 0 (modesIn block))
 
 -- ---- the table: 1 and 7 are of its length
 abbrev pub wrongLength : List ℕ → Bool

@@ -5,7 +5,8 @@ use Prim.Native.Nat.{ℕ, _-_}
 use native.Mathlib.Nat.{sub-zero}
 use Rattle.answer.specs.Order.{first}
 use Rattle.answer.proofs.Elses.{stopped, answered, went-on}
-use Rattle.block.specs.Layout.{modesIn, figuresIn, figuresFrom}
+use Rattle.model.specs.Turns.{eachFrom}
+use Rattle.block.specs.Layout.{modesIn, figuresIn}
 use Rattle.block.specs.Tests.{figureRows, modesRows}
 use Rattle.block.proofs.Figures.{modes-more, modes-end}
 use Rattle.table.specs.Said.{said}
@@ -19,7 +20,7 @@ use Rattle.table.proofs.check_task.Tie as tie
 abbrev Inv-loop : tie.InvT-loop
 Inv-loop block common task at got modes j₀ j =
     (said got ≡ taskSaid block)
-    × (first (wholeTaskRows common task at block) (taskSaid block) ≡ first (modesRows at common (figuresFrom (figuresIn block) j (modes - j))) (taskSaid block))
+    × (first (wholeTaskRows common task at block) (taskSaid block) ≡ first (modesRows at common (eachFrom (figuresIn block) j (modes - j))) (taskSaid block))
 
 abbrev μ-loop : tie.MeasureT-loop
 μ-loop block common task at got modes j₀ j = modes - j
@@ -51,7 +52,7 @@ loop-holds c =
     let n : g .0 .1 .0 - 0 ≡ modesIn block = sub-zero (g .0 .1 .0) ∙ cc in (
       same,
       whole-first (a .common) (a .task) (a .at) block S ∙ went-on reading (2 ∷ []) (r .result) rows S tt key (r .ensures) _
-          ∙ ap (λ (k : ℕ). first (modesRows (a .at) (a .common) (figuresFrom (figuresIn block) 0 k)) S) (sym n),
+          ∙ ap (λ (k : ℕ). first (modesRows (a .at) (a .common) (eachFrom (figuresIn block) 0 k)) S) (sym n),
     )
 
 read-mode-requires : tie.Need-read-mode-requires Inv-loop μ-loop
