@@ -2,8 +2,8 @@
 use Prim.Native.Nat.{ℕ}
 use mathlib.Core.Path.{_≡_, refl, sym, ap, _∙_}
 use mathlib.Core.List.{List, [], _∷_, _++_}
-use mathlib.Core.Bool.{true, false}
-use Rattle.answer.specs.Said.{Said}
+use mathlib.Core.Bool.{Bool, true, false}
+use Rattle.answer.specs.Said.{Said, refused}
 use Rattle.answer.specs.Order.{Row, row, first, afterwards, Outcome, NoneGiven}
 use Rattle.answer.proofs.Bools.{clash}
 use Rattle.answer.proofs.Rows.{kind, first-append, none-first, stop, first-none}
@@ -38,9 +38,34 @@ pub joined : (A B : List Row) {s : Said} {e : List ℕ} (rest : Said) (before af
 joined A B rest before after o =
     record { says = o .says ∙ sym (first-append A B rest); leaves = o .leaves ∙ sym (after-append before after A B) }
 
+-- rows of which none is given, before others
+pub behind : (A B : List Row) {s : Said} {e : List ℕ} (rest : Said) (before after : List ℕ) → NoneGiven A → Outcome B rest before after s e
+    → Outcome (A ++ B) rest before after s e
+behind A B rest before after p o =
+    joined A B rest before after (goes A (first B rest) before (afterwards B before after) p (o .says) (o .leaves))
+
+-- and then one that is
+pub given : (A B : List Row) (k : ℕ) (b : Bool) {s rest : Said} {before after : List ℕ} → NoneGiven A → b ≡ true → s ≡ refused k 0
+    → Outcome (A ++ row k 0 b ∷ B) rest before after s before
+given A B k b {rest = rest} {before} {after} none e q = behind A (row k 0 b ∷ B) rest before after none (record { says = q ∙ rw e; leaves = rw e })
+
+-- those rows may go
+pub beyond : (A B : List Row) {s : Said} {e : List ℕ} (rest : Said) (before after : List ℕ) → NoneGiven A → Outcome (A ++ B) rest before after s e
+    → Outcome B rest before after s e
+beyond A B rest before after p o =
+    record {
+      says = o .says ∙ first-append A B rest ∙ none-first A (first B rest) p;
+      leaves = o .leaves ∙ after-append before after A B ∙ none-after before (afterwards B before after) A p;
+    }
+
 -- behind an answer that is no refusal no row was given, and the buffer is changed
 pub gone : (A : List Row) {s : Said} {e : List ℕ} (rest : Said) (before after : List ℕ) → (kind s ≡ 0 → ⊥) → Outcome A rest before after s e
     → NoneGiven A × (e ≡ after)
 gone A rest before after ne o =
     let p = first-none A rest ne (o .says) in
     (p, o .leaves ∙ none-after before after A p)
+
+-- under a refusal the buffer is as it was
+pub unchanged : (A : List Row) {s : Said} {e : List ℕ} (rest : Said) (before after : List ℕ) → (kind s ≡ kind rest → ⊥) → Outcome A rest before after s e
+    → e ≡ before
+unchanged A rest before after ne o = o .leaves ∙ stop-after before after A rest ne (o .says)

@@ -38,6 +38,17 @@ kind (filled p) = 5
 kind (plan u v) = 6
 kind written = 7
 
+-- and its numbers
+abbrev pub numbers : Said → ℕ × ℕ × ℕ
+numbers (refused n k) = (n, k, 0)
+numbers (header n m H) = (n, m, H)
+numbers (task E j p) = (E, j, p)
+numbers (figures C L T) = (C, L, T)
+numbers (needs k) = (k, 0, 0)
+numbers (filled p) = (p, 0, 0)
+numbers (plan u v) = (u, v, 0)
+numbers written = (0, 0, 0)
+
 -- rows before a refusal give a refusal
 pub kind-refused : (A : List Row) → kind (first A (refused 0 0)) ≡ 0
 kind-refused [] = refl

@@ -1,15 +1,19 @@
 -- Demand 2. Assumes nothing.
 use Prim.Native.Nat.{ℕ, zero, suc, _+_, _-_, _*_, _≤_, _<_}
 use native.Mathlib.Omega.{arith}
-use mathlib.Core.Path.{_≡_, sym, ap, subst, _∙_}
+use mathlib.Core.Path.{_≡_, sym, ap, ap₂, subst, _∙_}
+use mathlib.Core.Logic.{inl, inr, ⊎-elim}
 use mathlib.Core.List.{List}
-use lib.ListN.{length}
+use lib.ListN.{length, getD}
 use Rattle.answer.specs.Said.{header, task, figures}
 use Rattle.answer.specs.Order.{NoneGiven}
 use Rattle.answer.proofs.Rows.{first-none}
 use Rattle.block.specs.Bytes.{Bytes}
+use Rattle.model.specs.Rules.{coresOf, demandOf, costOf}
+use Rattle.model.specs.Plan.{Option}
 use Rattle.model.specs.Turns.{eachFrom}
-use Rattle.block.specs.Layout.{elasticityIn, modesIn, permittedIn, figuresIn, flat}
+use Rattle.block.specs.Layout.{elasticityIn, modesIn, permittedIn, Figures, figuresIn, flat}
+use Rattle.block.specs.Tests.{allows}
 use Rattle.block.specs.Whole.{headerBytes}
 use Rattle.model.proofs.Turns.{each-same, same-each}
 use Rattle.block.proofs.Figures.{flat-same}
@@ -20,7 +24,13 @@ use Rattle.table.specs.Lawful.{Lawful}
 use Rattle.table.proofs.Blocks.{bytes-block}
 use Rattle.table.proofs.Accepted.{lawful, accepted-none}
 use Rattle.table.proofs.Held.{Holds, holds-none, none-holds, task-asked, mode-asked}
-use Rattle.demands.specs.Demand2.{ReadsAs, WrittenAs, EveryLawfulTableIsAccepted, WrittenAndReadBack, ReadAndRewritten}
+use Rattle.model.specs.Workspace.{advance}
+use Rattle.model.proofs.Fills.{fill-length, fill-outside}
+use Rattle.model.proofs.Locals.{fill-holds, rule-local}
+use Rattle.options.specs.Tasks.{optionOf, taskOf, tasksOf, tasksAt, coresOfTable, cellsOf}
+use Rattle.portions.specs.Portion.{ruleOf}
+use Rattle.portions.proofs.Laws.{step-went}
+use Rattle.demands.specs.Demand2.{ReadsAs, WrittenAs, EveryLawfulTableIsAccepted, WrittenAndReadBack, ReadAndRewritten, APortionFillsJustTheCellsItPaysFor}
 use Rattle.demands.proofs.Blocks.{together, length-together, block-together, bytes-together, same-blocks}
 use Rattle.demands.proofs.Writers.{header-made, header-writes, header-wrote, task-block, task-made, task-writes, task-wrote}
 
@@ -131,6 +141,15 @@ every-lawful-table-is-accepted t l =
     (table-of t, bytes-together (block-of t) (block-bytes t) 0 (t .tasks + 1), w, written-and-read-back t (table-of t) l w .front)
 
 -- ---- read, then written
+-- an option by what it is made of
+abbrev option-by : ℕ → ℕ → ℕ → ℕ → Figures → Figures → Option
+option-by H j E permitted nominal own =
+    record {
+      permitted = allows permitted j;
+      need = coresOf (own .work) (own .span) (own .period);
+      cost = costOf E (demandOf (nominal .work) (nominal .period) H) (demandOf (own .work) (own .period) H);
+    }
+
 module _ (bytes : List ℕ) (b : Bytes bytes) (p : NoneGiven (tableRows bytes)) where
   -- the blocks of an accepted table are those of the numbers that stand in them
   own-blocks : Blocks (numbersIn bytes) bytes
@@ -152,13 +171,13 @@ module _ (bytes : List ℕ) (b : Bytes bytes) (p : NoneGiven (tableRows bytes)) 
     front-same : header (numbersIn bytes .tasks) (numbersIn bytes .cores) (numbersIn bytes .common) ≡ header (t .tasks) (t .cores) (t .common)
     front-same = sym (accepted-none bytes .1 p) ∙ r .front
 
-    tasks-same : numbersIn bytes .tasks ≡ t .tasks
+    pub tasks-same : numbersIn bytes .tasks ≡ t .tasks
     tasks-same = let e = front-same in cc
 
-    cores-same : numbersIn bytes .cores ≡ t .cores
+    pub cores-same : numbersIn bytes .cores ≡ t .cores
     cores-same = let e = front-same in cc
 
-    common-same : numbersIn bytes .common ≡ t .common
+    pub common-same : numbersIn bytes .common ≡ t .common
     common-same = let e = front-same in cc
 
     module _ (i : ℕ) (less : i < t .tasks) where
@@ -192,6 +211,27 @@ module _ (bytes : List ℕ) (b : Bytes bytes) (p : NoneGiven (tableRows bytes)) 
           rw modes-same
           (ap flat (each-same (figuresIn (taskBlock bytes i)) (t .task i .figures) 0 (t .task i .modes) (λ j low high. mode-same j (omega arith))))
 
+      -- and so are the options, with any common period
+      option-same : (H j : ℕ) → j < t .task i .modes → optionOf H (numbersIn bytes .task i) j ≡ optionOf H (t .task i) j
+      option-same H j few =
+          let f = figuresIn (taskBlock bytes i) in
+          ap₂ (λ (E permitted : ℕ). option-by H j E permitted (f 0) (f j)) elasticity-same permitted-same
+          ∙ ap₂ (λ (nominal own : Figures). option-by H j (t .task i .elasticity) (t .task i .permitted) nominal own) (mode-same 0 (omega arith)) (mode-same j few)
+
+      options-same : (H : ℕ) → taskOf H (numbersIn bytes .task i) ≡ taskOf H (t .task i)
+      unfolding taskOf
+      options-same H =
+          rw modes-same
+          (each-same (optionOf H (numbersIn bytes .task i)) (optionOf H (t .task i)) 0 (t .task i .modes) (λ j low high. option-same H j (omega arith)))
+
+    -- the planner sees the same tasks
+    pub tasks-read : tasksAt bytes ≡ tasksOf t
+    unfolding tasksOf
+    tasks-read =
+        rw (tasks-same, common-same)
+        (each-same (λ i. taskOf (t .common) (numbersIn bytes .task i)) (λ i. taskOf (t .common) (t .task i)) 0 (t .tasks)
+        (λ i low high. options-same i (omega arith) (t .common)))
+
     rewritten : WrittenAs t bytes
     rewritten =
         let w = blocks-written (numbersIn bytes) (lawful bytes b p .numbers) bytes own-blocks in
@@ -211,3 +251,23 @@ read-and-rewritten bytes b (n, m, H, e) =
           let w = rewritten bytes b p t r in
           (w, λ other v. one-table t other bytes (written-blocks t other v) (written-blocks t bytes w)),
     )
+
+-- ---- a portion
+pub a-portion-fills-just-the-cells-it-pays-for : APortionFillsJustTheCellsItPaysFor
+a-portion-fills-just-the-cells-it-pays-for bytes before p b after q s =
+    let w = step-went s in
+    let P = w .progress in
+    let I = w .within in
+    let R = w .room in
+    let k : p + (advance (cellsOf bytes) p b - p) ≡ q = omega arith in
+    record {
+      progress = P;
+      paid = omega arith;
+      as-many = ap length (w .cells) ∙ fill-length (ruleOf bytes) before p (advance (cellsOf bytes) p b - p);
+      filled-by-rule = λ c low high.
+          subst (λ (e : List ℕ). getD e c 0 ≡ ruleOf bytes e c) (sym (w .cells))
+          (fill-holds (ruleOf bytes) (rule-local (tasksAt bytes) (coresOfTable bytes)) before p (advance (cellsOf bytes) p b - p) c low (omega arith) (omega arith));
+      others = λ c h.
+          ap (λ (e : List ℕ). getD e c 0) (w .cells)
+          ∙ fill-outside (ruleOf bytes) before p (advance (cellsOf bytes) p b - p) c 0 (⊎-elim (λ low. inl low) (λ high. inr (omega arith)) h);
+    }

@@ -1,9 +1,10 @@
--- Demand 2, its sentences about tables: "Every lawful table is accepted. Written and read back it gives the same numbers; read and
--- rewritten, the same bytes."
+-- Demand 2: "Every lawful table is accepted. Written and read back it gives the same numbers; read and rewritten, the same bytes. A
+-- portion fills just the cells it pays for."
 use Prim.Native.Nat.{ℕ, _+_, _*_, _≤_, _<_}
 use mathlib.Core.Path.{_≡_}
+use mathlib.Core.Logic.{_⊎_}
 use mathlib.Core.List.{List, _++_}
-use lib.ListN.{length, drop}
+use lib.ListN.{length, drop, getD}
 use Rattle.answer.specs.Said.{header, task, figures}
 use Rattle.block.specs.Bytes.{Bytes}
 use Rattle.table.specs.Order.{headerBlock, taskBlock, tableSaid, askTaskSaid, askModeSaid}
@@ -11,6 +12,10 @@ use Rattle.table.specs.Numbers.{TaskNumbers, figuresOf, Numbers}
 use Rattle.table.specs.Lawful.{Lawful}
 use Rattle.writer.specs.declared.Written.the-variants.{Done}
 use Rattle.writer.specs.Order.{WroteHeader, WroteTask}
+use Rattle.model.specs.Workspace.{advance}
+use Rattle.options.specs.Tasks.{cellsOf}
+use Rattle.portions.specs.Portion.{ruleOf}
+use Rattle.portions.specs.Runs.{Step}
 
 -- ---- reading: what `check`, `ask_task` and `ask_mode` answer of these bytes are these numbers
 pub record ReadsAs (bytes : List ℕ) (t : Numbers) : Type 0 where
@@ -57,3 +62,16 @@ ReadAndRewritten =
     (bytes : List ℕ) → Bytes bytes → Accepted bytes
     → ((t : Numbers) × ReadsAs bytes t)
     × ((t : Numbers) → ReadsAs bytes t → WrittenAs t bytes × ((other : List ℕ) → WrittenAs t other → other ≡ bytes))
+
+-- a portion fills just the cells it pays for: from progress p at most b of them, each as the rule has it, and every other cell keeps its
+-- value
+pub record FillsJust (bytes before : List ℕ) (p b : ℕ) (after : List ℕ) (q : ℕ) : Type 0 where
+  pub progress : q ≡ advance (cellsOf bytes) p b
+  pub paid : q ≤ p + b
+  pub as-many : length after ≡ length before
+  pub filled-by-rule : (c : ℕ) → p ≤ c → c < q → getD after c 0 ≡ ruleOf bytes after c
+  pub others : (c : ℕ) → (c < p) ⊎ (q ≤ c) → getD after c 0 ≡ getD before c 0
+
+abbrev pub APortionFillsJustTheCellsItPaysFor : Type 0
+APortionFillsJustTheCellsItPaysFor =
+    (bytes before : List ℕ) (p b : ℕ) (after : List ℕ) (q : ℕ) → Step bytes before p b after q → FillsJust bytes before p b after q

@@ -1,1 +1,6 @@
 pub mod Demand2
+pub mod Whole
+pub mod Demand1
+pub mod Demand3
+pub mod Examples
+pub mod ShutOut

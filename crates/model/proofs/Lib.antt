@@ -9,6 +9,7 @@ pub mod Chosen
 pub mod Listing
 pub mod Fills
 pub mod Values
+pub mod Locals
 pub mod Taking
 pub mod Taken
 pub mod Whole

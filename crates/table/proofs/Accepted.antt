@@ -2,10 +2,11 @@
 use Prim.Native.Nat.{ℕ, zero, suc, _+_, _*_, _≤_, _<_}
 use native.Mathlib.Nat.{eq-or-lt-of-le}
 use native.Mathlib.Omega.{arith}
-use mathlib.Core.Path.{_≡_, sym, subst}
+use mathlib.Core.Path.{_≡_, sym, ap, subst, _∙_}
 use mathlib.Core.List.{List, [], _∷_}
 use mathlib.Core.Logic.{⊎-elim, _↔_}
 use lib.ListN.{length}
+use Rattle.answer.specs.Said.{header}
 use Rattle.answer.specs.Order.{row, NoneGiven}
 use Rattle.answer.proofs.Rows.{none-append, none-first, first-none}
 use Rattle.answer.proofs.Elses.{passed, answered}
@@ -15,10 +16,11 @@ use Rattle.block.specs.Layout.{tasksIn, coresIn, commonIn, modesIn, taskNumberI
 use Rattle.block.specs.Tests.{figureRows, modesRows}
 use Rattle.block.proofs.Laid.{number-small}
 use Rattle.table.specs.declared.Reading.{Reading}
+use Rattle.table.specs.declared.Reading.the-variants.{Header}
 use Rattle.table.specs.Said.{said}
 use Rattle.table.specs.Order.{headerBlock, taskBlock, headerRows, headerSaid, taskRows, wholeTaskRows, otherLength, frontRows, tasksRows, tableRows, tableSaid}
-use Rattle.table.specs.Numbers.{taskNumbersIn}
-use Rattle.table.specs.Lawful.{LawfulTable}
+use Rattle.table.specs.Numbers.{taskNumbersIn, numbersIn}
+use Rattle.table.specs.Lawful.{LawfulTable, LawfulWith}
 use Rattle.table.proofs.Readings.{reading, tag}
 use Rattle.table.proofs.Blocks.{bytes-block}
 use Rattle.table.proofs.Limits.{is, header-lawful, task-lawful, figures-lawful}
@@ -100,3 +102,14 @@ accepted bytes r b t q =
       lawful bytes b (passed reading (1 ∷ []) r (tableRows bytes) S tt t q),
       answered reading (1 ∷ []) r (tableRows bytes) S tt t q,
     )
+
+-- and by the numbers that its pattern bound
+pub accepted-with : (bytes : List ℕ) (r : Reading) (n m H : ℕ) → Bytes bytes → tag r ≡ 1 → said r ≡ tableSaid bytes → r ≡ Header n m H
+    → LawfulWith bytes n m H
+accepted-with bytes r n m H b t q e =
+    let a = accepted bytes r b t q in
+    let same : header n m H ≡ headerSaid (headerBlock bytes) = sym (ap said e) ∙ a .1 in
+    let tasks : numbersIn bytes .tasks ≡ n = cc in
+    let cores : numbersIn bytes .cores ≡ m = cc in
+    let common : numbersIn bytes .common ≡ H = cc in
+    record { table = a .0; tasks = tasks; cores = cores; common = common }

@@ -1,13 +1,20 @@
 -- `Reading` as an enum of answers: what is said of one is the whole of it. Assumes nothing.
 use Prim.Native.Nat.{ℕ}
+use native.Mathlib.Omega.{arith}
 use mathlib.Core.Path.{_≡_, refl, sym, ap, _∙_}
+use mathlib.Core.List.{List, [], _∷_, map}
+use mathlib.Core.Bool.{cond, not}
+use lib.Dec.{T, eqb}
+use mir.Val.{hasKey}
+use types.Run.{OneOf, miss}
 use denote.Enum.Declared.{tagOf}
-use Rattle.answer.specs.Said.{Said, refused, header, task, figures, needs, filled, plan, written}
-use Rattle.answer.proofs.Rows.{kind}
-use Rattle.answer.proofs.Elses.{Tells}
+use Rattle.answer.specs.Said.{Said, refused}
+use Rattle.answer.specs.Order.{Row, first, Outcome}
+use Rattle.answer.proofs.Rows.{kind, numbers, kind-refused}
+use Rattle.answer.proofs.Elses.{Tells, stopped, kept}
 use Rattle.table.specs.declared.Reading.{Reading}
 use Rattle.table.specs.declared.Reading.the-variants.{Refused, Header, Task, Figures}
-use Rattle.table.specs.Said.{said}
+use Rattle.table.specs.Said.{said, refusalOf}
 use Rattle.table.proofs.Reading.{the-type}
 
 abbrev pub tag : Reading → ℕ
@@ -22,16 +29,12 @@ told (Figures C L T) = refl
 abbrev pub reading : Tells Reading
 reading = record { said = said; tag = tag; says = λ k. k; told = told }
 
--- the reading that says it; what no reading says is given to a refusal
+-- the answer that says it, by its kind and its numbers
 abbrev unsaid : Said → Reading
-unsaid (refused n k) = Refused (record { number = n; at = k })
-unsaid (header n m H) = Header n m H
-unsaid (task E k p) = Task E k p
-unsaid (figures C L T) = Figures C L T
-unsaid (needs k) = Refused (record { number = 0; at = 0 })
-unsaid (filled p) = Refused (record { number = 0; at = 0 })
-unsaid (plan u v) = Refused (record { number = 0; at = 0 })
-unsaid written = Refused (record { number = 0; at = 0 })
+unsaid s =
+    cond (eqb (kind s) 0) (Refused (record { number = numbers s .0; at = numbers s .1 }))
+    (cond (eqb (kind s) 1) (Header (numbers s .0) (numbers s .1) (numbers s .2))
+    (cond (eqb (kind s) 2) (Task (numbers s .0) (numbers s .1) (numbers s .2)) (Figures (numbers s .0) (numbers s .1) (numbers s .2))))
 
 back : (r : Reading) → unsaid (said r) ≡ r
 back (Refused r) = refl
@@ -41,3 +44,26 @@ back (Figures C L T) = refl
 
 pub one-reading : {s : Said} (x y : Reading) → said x ≡ s → said y ≡ s → x ≡ y
 one-reading x y p q = sym (back x) ∙ ap unsaid (p ∙ sym q) ∙ back y
+
+-- ---- a reading handed on
+pub no-refusal : (r : Reading) → OneOf (1 ∷ 2 ∷ 3 ∷ []) (tag r) → record { number = 0; at = 0 } ≡ refusalOf r
+no-refusal (Refused r) one = absurd (miss (1 ∷ 2 ∷ 3 ∷ []) 0 tt one)
+no-refusal (Header n m H) one = refl
+no-refusal (Task E modes permitted) one = refl
+no-refusal (Figures C L T) one = refl
+
+-- what its rows give whatever the rest is a refusal, and is given still
+pub handed-on : (A : List Row) (r : Reading) (s : Said) → ((t : Said) → said r ≡ first A t) → refused (refusalOf r .number) (refusalOf r .at) ≡ first A s
+handed-on A (Refused r) s h = h s
+handed-on A (Header n m H) s h = absurd (omega (arith, ap kind (h (refused 0 0)) ∙ kind-refused A))
+handed-on A (Task E modes permitted) s h = absurd (omega (arith, ap kind (h (refused 0 0)) ∙ kind-refused A))
+handed-on A (Figures C L T) s h = absurd (omega (arith, ap kind (h (refused 0 0)) ∙ kind-refused A))
+
+-- in the `else` of a caller with another kind of answer: the refusal is handed on, and a lent buffer is as it was
+pub handed-else : (ks : List ℕ) (r : Reading) (A : List Row) (s t : Said) (before after : List ℕ) → T (not (hasKey (map (λ k. k) ks) (kind s)))
+    → OneOf ks (tag r) → said r ≡ first A s → Outcome A t before after (refused (refusalOf r .number) (refusalOf r .at)) before
+handed-else ks r A s t before after out one q =
+    record {
+      says = handed-on A r t (λ u. stopped reading ks r A s u out one q);
+      leaves = kept reading ks r A s t before after out one q .leaves;
+    }

@@ -5,6 +5,8 @@ use mathlib.Core.Path.{refl, sym, _∙_}
 use Rattle.answer.specs.One.{One, OneSeen}
 use Rattle.answer.proofs.Pair.{pair}
 use Rattle.table.proofs.Readings.{one-reading}
+use Rattle.table.proofs.refusal_of.Kinds as refusal-of-kinds
+use Rattle.table.proofs.refusal_of.Reads as refusal-of-reads
 use Rattle.table.proofs.task_block.Kinds as task-block-kinds
 use Rattle.table.proofs.task_block.Reads as task-block-reads
 use Rattle.table.proofs.test_figures.Kinds as test-figures-kinds
@@ -15,6 +17,9 @@ use Rattle.table.proofs.ask_task.Kinds as ask-task-kinds
 use Rattle.table.proofs.ask_task.Reads as ask-task-reads
 use Rattle.table.proofs.ask_mode.Kinds as ask-mode-kinds
 use Rattle.table.proofs.ask_mode.Reads as ask-mode-reads
+
+pub refusal-of-one : One refusal-of-kinds.ps refusal-of-kinds.r refusal-of-reads.Post
+refusal-of-one κs a x y s t p q = (p ∙ sym q, refl)
 
 -- where the part stands and its bytes; the reference's ghost name is a new one at each call
 pub task-block-one : OneSeen {A = λ κs. (ℕ × ℕ) × List ℕ} task-block-kinds.ps task-block-kinds.r (λ κs x. (x .ptr, x .now)) task-block-reads.Post

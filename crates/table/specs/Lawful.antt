@@ -51,3 +51,10 @@ pub record LawfulTable (bytes : List ℕ) : Type 0 where
   pub long : length bytes ≡ 512 * (numbersIn bytes .tasks + 1)
   pub number : (i : ℕ) → i < numbersIn bytes .tasks → taskNumberIn (taskBlock bytes i) ≡ i
   pub numbers : Lawful (numbersIn bytes)
+
+-- with so many tasks and cores, and this common period
+pub record LawfulWith (bytes : List ℕ) (n m H : ℕ) : Type 0 where
+  pub table : LawfulTable bytes
+  pub tasks : numbersIn bytes .tasks ≡ n
+  pub cores : numbersIn bytes .cores ≡ m
+  pub common : numbersIn bytes .common ≡ H

@@ -8,7 +8,7 @@ ghost use Rattle.answer.specs.Order.{first};
 ghost use Rattle.block.specs.Bytes.{number};
 ghost use Rattle.block.specs.Layout.{headerUnused, taskNumberIn, taskUnused, listed, figuresIn};
 ghost use Rattle.block.specs.Tests.{figureRows};
-ghost use Rattle.table.specs.Said.{said};
+ghost use Rattle.table.specs.Said.{said, refusalOf};
 ghost use Rattle.table.specs.Part.{Part};
 ghost use Rattle.table.specs.Order.{
   headerBlock,
@@ -63,6 +63,16 @@ fn refuse(number: u8, at: u32) -> Reading
     ensures { λ r. ⌜ said r ≡ refused number at ⌝ }
 {
     Reading::Refused(Refusal { number, at })
+}
+
+// The refusal in a reading, for a caller that answers in another kind; any other reading has none, and gives zeros.
+pub fn refusal_of(got: Reading) -> Refusal
+    ensures { λ r. ⌜ r ≡ refusalOf got ⌝ }
+{
+    match got {
+        Reading::Refused(refusal) => refusal,
+        _ => Refusal { number: 0, at: 0 },
+    }
 }
 
 // The 512 bytes from an offset on; fewer where the bytes end before.

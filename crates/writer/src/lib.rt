@@ -11,7 +11,7 @@ ghost use Rattle.block.specs.Bytes.{asBytes, laid};
 ghost use Rattle.block.specs.Layout.{threes};
 ghost use Rattle.block.specs.Tests.{wrongShape, modesRows};
 ghost use Rattle.block.specs.Whole.{sealed, headerBytes, taskBytes};
-ghost use Rattle.writer.specs.Said.{said, inTurn, handedOn};
+ghost use Rattle.writer.specs.Said.{said, inTurn};
 ghost use Rattle.writer.specs.Order.{roomRows, limitRows, numberRows, WroteHeader, WroteTask};
 ghost use Rattle.writer.specs.Puts.{over, frontWidths};
 use answer::Refusal;
@@ -21,6 +21,7 @@ use block::wrong_limits;
 use block::wrong_permitted;
 use block::wrong_shape;
 use table::Reading;
+use table::refusal_of;
 use table::test_figures;
 
 // What a writer answers: the refusal, or that the block is written.
@@ -44,16 +45,6 @@ fn in_turn(one: Written, next: Written) -> Written
         return one;
     };
     next
-}
-
-// A reading's refusal, as a writer's.
-fn hand_on(got: Reading) -> Written
-    ensures { λ r. ⌜ r ≡ handedOn got ⌝ }
-{
-    match got {
-        Reading::Refused(refusal) => Written::Refused(refusal),
-        _ => Written::Done,
-    }
 }
 
 // Puts a number at an offset, as 1, 2 or 4 bytes, least significant first.
@@ -219,7 +210,7 @@ fn test_modes(common: u32, figures: &[u32]) -> Written
             0,
         );
         let Reading::Figures { .. } = one else {
-            return hand_on(one);
+            return Written::Refused(refusal_of(one));
         };
         from += 3;
     }

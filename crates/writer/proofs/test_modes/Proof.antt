@@ -4,16 +4,15 @@ use mathlib.Core.List.{[], _∷_}
 use Prim.Native.Nat.{_+_, _-_, _≤_}
 use native.Mathlib.Omega.{arith}
 use lib.ListN.{length, drop, getD}
-use Rattle.answer.specs.Said.{written}
+use Rattle.answer.specs.declared.Refusal.{Refusal}
+use Rattle.answer.specs.Said.{refused, written}
 use Rattle.answer.specs.Order.{first}
 use Rattle.answer.proofs.Elses.{stopped, went-on}
 use Rattle.block.specs.Layout.{Figures, listed, threes}
 use Rattle.block.specs.Tests.{figureRows, modesRows}
 use Rattle.block.proofs.Figures.{lent-more, lent-end}
 use Rattle.table.specs.Order.{figuresSaid}
-use Rattle.table.proofs.Readings.{reading}
-use Rattle.writer.specs.Said.{said}
-use Rattle.writer.proofs.Answers.{rows-handed-on}
+use Rattle.table.proofs.Readings.{reading, handed-on}
 use borrow.Author.Needs.{needs}
 use Rattle.writer.proofs.test_modes.Statement.{statement}
 use Rattle.writer.proofs.test_modes.Tie as tie
@@ -61,8 +60,8 @@ test-figures-requires c κs = search needs
 enum-told : tie.Need-enum-told Inv-loop μ-loop
 enum-told c = search needs
 
-hand-on-requires : tie.Need-hand-on-requires Inv-loop μ-loop
-hand-on-requires c κs = search needs
+refusal-of-requires : tie.Need-refusal-of-requires Inv-loop μ-loop
+refusal-of-requires c κs = search needs
 
 -- the mode at hand
 abbrev here : tie.After-test-figures Inv-loop μ-loop → Figures
@@ -87,8 +86,8 @@ returns c =
     let d = c .before .before in
     let r = d .test-figures in
     let rows = figureRows 0 (d .before .before .before .before .before .before .before .args .common) (here d) in
-    ap said (c .hand-on .ensures)
-    ∙ rows-handed-on rows (r .result) _
+    ap (λ (x : Refusal). refused (x .number) (x .at)) (c .refusal-of .ensures)
+    ∙ handed-on rows (r .result) _
     (λ t. stopped reading (0 ∷ 1 ∷ 2 ∷ []) (r .result) rows (figuresSaid (here d)) t tt (c .before .match .keys2) (r .ensures))
     ∙ sym (further d)
 
@@ -131,7 +130,7 @@ test-modes-spec =
     shared-slice-read-test-figures-3
     test-figures-requires
     enum-told
-    hand-on-requires
+    refusal-of-requires
     returns
     add-from
     loop-less

@@ -11,7 +11,7 @@ use Rattle.answer.specs.Order.{Row, first, afterwards, NoneGiven}
 use Rattle.answer.proofs.Bools.{or-false}
 use Rattle.answer.proofs.Rows.{none-append, append-none}
 use Rattle.answer.proofs.Elses.{kept, passed, answered}
-use Rattle.answer.proofs.Outcomes.{goes, joined}
+use Rattle.answer.proofs.Outcomes.{goes, joined, behind}
 use Rattle.block.specs.Layout.{threes}
 use Rattle.block.specs.Tests.{outside, wrongShape, modesRows}
 use Rattle.block.specs.Whole.{taskBytes}
@@ -55,9 +55,9 @@ returns c =
     let d = c .before .before in
     let s = d .before .before .before in
     let before = s .args .out .now in
-    let behind = of-modes s ++ of-room s in
-    joined (of-numbers s) behind written before (filled s)
-    (kept writing (0 ∷ []) (d .test-numbers .result) (of-numbers s) written (first behind written) before (afterwards behind before (filled s)) tt
+    let later = of-modes s ++ of-room s in
+    joined (of-numbers s) later written before (filled s)
+    (kept writing (0 ∷ []) (d .test-numbers .result) (of-numbers s) written (first later written) before (afterwards later before (filled s)) tt
     (c .before .match .keys2) (d .test-numbers .ensures))
 
 -- behind good numbers none of their rows is given
@@ -98,10 +98,9 @@ returns-2 c =
     let k = d .before .before .before .before in
     let s = k .before .before .before .before in
     let before = s .args .out .now in
-    let behind = of-modes s ++ of-room s in
-    let o = kept writing (0 ∷ []) (d .in-turn .result) behind written written before (filled s) tt (c .before .match2 .keys2) (answer d) in
-    joined (of-numbers s) behind written before (filled s)
-    (goes (of-numbers s) (first behind written) before (afterwards behind before (filled s)) (numbers-none k) (o .says) (o .leaves))
+    let later = of-modes s ++ of-room s in
+    behind (of-numbers s) later written before (filled s) (numbers-none k)
+    (kept writing (0 ∷ []) (d .in-turn .result) later written written before (filled s) tt (c .before .match2 .keys2) (answer d))
 
 -- behind a good answer none of all the rows is given
 none : (c : tie.At-match2-keys1)
@@ -136,8 +135,8 @@ returns-3 c =
     let f = c .before .before in
     let k = f .before .before .before in
     let s = k .before .before .before .before .before .before .before .before .before in
-    let behind = of-modes s ++ of-room s in
-    goes (of-numbers s ++ behind) written (s .args .out .now) (filled s) (append-none (of-numbers s) behind (none k .0) (none k .1)) (none k .2)
+    let later = of-modes s ++ of-room s in
+    goes (of-numbers s ++ later) written (s .args .out .now) (filled s) (append-none (of-numbers s) later (none k .0) (none k .1)) (none k .2)
     (f .fill-task .ensures)
 
 pub write-task-spec : {M : Type 1} → statement M

@@ -1,0 +1,63 @@
+-- The document's starred examples, in one listing.
+use Prim.Native.Nat.{ℕ}
+use mathlib.Core.Path.{_≡_}
+use mathlib.Core.List.{List, [], _∷_}
+use lib.ListN.{getD}
+use Rattle.answer.specs.Said.{Said, refused, needs}
+use Rattle.model.specs.Rules.{coresSaid}
+use Rattle.model.specs.Plan.{IsPlan, NothingFits, totalCost}
+use Rattle.block.specs.Layout.{Figures, listed}
+use Rattle.table.specs.Numbers.{TaskNumbers, Numbers}
+use Rattle.options.specs.Tasks.{tasksOf}
+
+-- a task with these modes
+unfoldable pub taskWith : ℕ → ℕ → ℕ → List Figures → TaskNumbers
+taskWith E modes permitted figures =
+    record { elasticity = E; modes = modes; permitted = permitted; figures = λ j. getD figures j (listed 0 0 0) }
+
+-- the sample table, with m cores: H = 1000, all modes permitted
+unfoldable pub sampleTasks : List TaskNumbers
+sampleTasks =
+    taskWith 1 2 3 (listed 1800 200 1000 ∷ listed 900 200 1000 ∷ [])
+    ∷ taskWith 2 3 7 (listed 1400 200 500 ∷ listed 1400 200 1000 ∷ listed 700 100 500 ∷ [])
+    ∷ []
+
+unfoldable pub sample : ℕ → Numbers
+sample m = record { tasks = 2; cores = m; common = 1000; task = λ i. getD sampleTasks i (taskWith 0 0 0 []) }
+
+-- a line: of (C, L, T) the cores or refusal 13; of the sample with m cores the plan's modes and cost, or that nothing fits
+pub data Line : Type 0 where
+  cores : ℕ → ℕ → ℕ → Said → Line
+  plan : ℕ → List ℕ → ℕ → Line
+  nothing : ℕ → Line
+
+-- what a line claims
+abbrev pub Holds : Line → Type 0
+Holds (cores C L T answer) = coresSaid C L T ≡ answer
+Holds (plan m modes cost) = IsPlan (tasksOf (sample m)) m modes × (totalCost (tasksOf (sample m)) modes ≡ cost)
+Holds (nothing m) = NothingFits (tasksOf (sample m)) m
+
+unfoldable pub listing : List Line
+listing =
+    cores 10 4 6 (needs 3)
+    ∷ cores 8 4 6 (needs 2)
+    ∷ cores 9 3 6 (needs 2)
+    ∷ cores 10 3 6 (needs 3)
+    ∷ cores 5 5 6 (needs 1)
+    ∷ cores 6 6 6 (needs 1)
+    ∷ cores 6 5 6 (needs 1)
+    ∷ cores 7 5 6 (needs 2)
+    ∷ cores 7 6 6 (refused 13 0)
+    ∷ nothing 2
+    ∷ plan 3 (1 ∷ 1 ∷ []) 4510800000
+    ∷ plan 5 (1 ∷ 0 ∷ []) 2041200000
+    ∷ plan 6 (0 ∷ 0 ∷ []) 0
+    ∷ []
+
+-- the claim: every line holds
+abbrev pub Every : List Line → Type 0
+Every [] = Unit {0}
+Every (l ∷ ls) = Holds l × Every ls
+
+abbrev pub TheExamplesHold : Type 0
+TheExamplesHold = Every listing

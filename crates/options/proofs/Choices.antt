@@ -1,0 +1,61 @@
+-- A mode as the two arrays hold it is chosen where the task's option is. Assumes nothing.
+use mathlib.Core.Path.{_≡_, refl, sym, ap₂, _∙_}
+use mathlib.Core.Bool.{Bool, true, false}
+use Prim.Native.Nat.{ℕ, zero, suc, _+_, _<_, min}
+use native.Mathlib.Omega.{arith}
+use borrow.Author.Tests.{lt-leb}
+use Rattle.answer.proofs.Bools.{clash}
+use Rattle.model.specs.Rules.{meets}
+use Rattle.model.specs.Turns.{eachFrom}
+use Rattle.model.specs.Plan.{Option, option}
+use Rattle.model.specs.Cells.{mark, may, least}
+use Rattle.model.specs.Taking.{keeps}
+use Rattle.block.specs.Tests.{allows}
+use Rattle.table.specs.Numbers.{TaskNumbers}
+use Rattle.cells.specs.Rows.{held, heldTask, offered}
+use Rattle.options.specs.Tasks.{coresAt, costAt, optionOf, taskOf}
+use Rattle.options.specs.Arrays.{needAt, needsOf, costsOf, InLimits}
+
+-- the mode meets its period
+abbrev pub Meets : TaskNumbers → ℕ → Type 0
+Meets t j = meets (t .figures j .work) (t .figures j .span) (t .figures j .period) ≡ true
+
+module _ (H : ℕ) (t : TaskNumbers) (j : ℕ) (meeting : Meets t j) (next : ℕ → ℕ) (c : ℕ) (low : c < mark) where
+  abbrev as-held : Option
+  as-held = held (needAt t j) (costAt H t j)
+
+  -- by its bit: permitted, it is the option itself; not permitted, neither is chosen
+  by-bit : {A : Type 0} (f : Option → A) → ((o : Option) → may o c ≡ false → (x : Option) → may x c ≡ false → f o ≡ f x)
+      → (b : Bool) → allows (t .permitted) j ≡ b → f as-held ≡ f (optionOf H t j)
+  unfolding may
+  by-bit f same true e = rw (e, meeting)
+  by-bit f same false e = same as-held (rw e (lt-leb mark c low)) (optionOf H t j) (rw e)
+
+  pub held-offered : offered as-held next c ≡ offered (optionOf H t j) next c
+  held-offered = by-bit (λ o. offered o next c) (λ o e x g. rw (e, g)) (allows (t .permitted) j) refl
+
+  pub held-keeps : (v : ℕ) → keeps next c v as-held ≡ keeps next c v (optionOf H t j)
+  unfolding keeps
+  held-keeps v = by-bit (keeps next c v) (λ o e x g. rw (e, g)) (allows (t .permitted) j) refl
+
+  -- where it is kept, the need held is the mode's cores
+  pub held-need : (v : ℕ) → keeps next c v as-held ≡ true → needAt t j ≡ optionOf H t j .need
+  unfolding keeps may
+  held-need v k = go (allows (t .permitted) j) refl
+    where
+      go : (b : Bool) → allows (t .permitted) j ≡ b → needAt t j ≡ coresAt t j
+      go true e = rw (e, meeting)
+      go false e = clash (sym k ∙ rw (e, lt-leb mark c low))
+
+-- the least over the two arrays is the least over the task
+least-each : (H : ℕ) (t : TaskNumbers) (next : ℕ → ℕ) (c : ℕ) → c < mark → (j left : ℕ) → ((k : ℕ) → k < j + left → Meets t k)
+    → least (heldTask (eachFrom (needAt t) j left) (eachFrom (costAt H t) j left)) next c ≡ least (eachFrom (optionOf H t) j left) next c
+unfolding least heldTask eachFrom
+least-each H t next c low j zero m = refl
+least-each H t next c low j (suc left) m =
+    ap₂ min (held-offered H t j (m j (omega arith)) next c low) (least-each H t next c low (j + 1) left (λ k h. m k (omega arith)))
+
+pub held-least : (H : ℕ) (t : TaskNumbers) (next : ℕ → ℕ) (c : ℕ) → c < mark → InLimits H t
+    → least (heldTask (needsOf t) (costsOf H t)) next c ≡ least (taskOf H t) next c
+unfolding taskOf
+held-least H t next c low l = least-each H t next c low 0 (t .modes) (λ k h. l .meeting k (omega arith))

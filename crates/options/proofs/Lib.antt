@@ -1,0 +1,4 @@
+pub mod Sixteens
+pub mod Tables
+pub mod Choices
+pub mod Settled

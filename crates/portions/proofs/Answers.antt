@@ -1,0 +1,40 @@
+-- `Filling` as an enum of answers: what is said of one is the whole of it. Assumes nothing.
+use Prim.Native.Nat.{ℕ, zero, suc}
+use mathlib.Core.Path.{_≡_, refl, sym, ap, _∙_}
+use mathlib.Core.Bool.{cond}
+use lib.Dec.{eqb}
+use denote.Enum.Declared.{tagOf}
+use Rattle.answer.specs.Said.{Said}
+use Rattle.answer.proofs.Rows.{kind, numbers}
+use Rattle.answer.proofs.Elses.{Tells}
+use Rattle.portions.specs.declared.Filling.{Filling}
+use Rattle.portions.specs.declared.Filling.the-variants.{Refused, Filled}
+use Rattle.portions.specs.Said.{said}
+use Rattle.portions.proofs.Filling.{the-type}
+
+abbrev pub tag : Filling → ℕ
+tag r = tagOf the-type r
+
+-- the kind that a tag says
+abbrev pub says : ℕ → ℕ
+says zero = 0
+says (suc k) = 5
+
+pub told : (r : Filling) → kind (said r) ≡ says (tag r)
+told (Refused x) = refl
+told (Filled p) = refl
+
+abbrev pub filling : Tells Filling
+filling = record { said = said; tag = tag; says = says; told = told }
+
+-- the answer that says it, by its kind and its numbers
+abbrev unsaid : Said → Filling
+unsaid s =
+    cond (eqb (kind s) 0) (Refused (record { number = numbers s .0; at = numbers s .1 })) (Filled (numbers s .0))
+
+back : (r : Filling) → unsaid (said r) ≡ r
+back (Refused r) = refl
+back (Filled p) = refl
+
+pub one-answer : {s : Said} (x y : Filling) → said x ≡ s → said y ≡ s → x ≡ y
+one-answer x y p q = sym (back x) ∙ ap unsaid (p ∙ sym q) ∙ back y

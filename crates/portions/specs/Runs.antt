@@ -1,0 +1,36 @@
+-- Portions after each other, over `portion`'s promise alone.
+use Prim.Native.Nat.{ℕ, _+_, _≤_}
+use mathlib.Core.Path.{_≡_}
+use mathlib.Core.Logic.{_↔_}
+use mathlib.Core.List.{List, [], _∷_}
+use lib.ListN.{replicate}
+use Rattle.answer.specs.Said.{filled}
+use Rattle.model.specs.Rules.{roundedUp}
+use Rattle.options.specs.Tasks.{cellsOf}
+use Rattle.portions.specs.declared.Filling.{Filling}
+use Rattle.portions.specs.Said.{said}
+use Rattle.portions.specs.Portion.{Portioned}
+
+-- a portion that was not refused: it answered the new progress q
+pub record Step (bytes before : List ℕ) (p b : ℕ) (after : List ℕ) (q : ℕ) : Type 0 where
+  pub answer : Filling
+  pub allowed : Portioned bytes before p b answer after
+  pub gave : said answer ≡ filled q
+
+-- the budgets spent in turn, each portion going on from the progress the last one gave, and nothing else altering table or workspace
+abbrev pub Run : List ℕ → List ℕ → List ℕ → ℕ → List ℕ → ℕ → Type 0
+Run bytes [] before p after q = (before ≡ after) × (p ≡ q)
+Run bytes (b ∷ bs) before p after q =
+    (mid : List ℕ) × (between : ℕ) × Step bytes before p b mid between × Run bytes bs mid between after q
+
+-- two portions after each other are one of the summed budget
+abbrev pub TwoAreOne : Type 0
+TwoAreOne =
+    (bytes before mid after : List ℕ) (p b c q q' : ℕ) → Step bytes before p b mid q → Step bytes mid q c after q'
+    → Step bytes before p (b + c) after q'
+
+-- from progress 0, with the same b of at least 1 each time, W is reached after W / b calls, rounded up, and not earlier
+abbrev pub ReachedInTime : Type 0
+ReachedInTime =
+    (bytes before after : List ℕ) (b k q : ℕ) → 1 ≤ b → Run bytes (replicate k b) before 0 after q
+    → (q ≡ cellsOf bytes) ↔ (roundedUp (cellsOf bytes) b ≤ k)

@@ -1,0 +1,71 @@
+-- A task of a lawful table as two arrays hold it: a mode held keeps a cell's cost where the task's option does. Assumes nothing.
+use Prim.Native.Nat.{ℕ, _+_, _*_, _<_, _≤_}
+use native.Mathlib.Nat.{zero-add}
+use mathlib.Core.Path.{_≡_, sym, ap, ap₂, _∙_}
+use mathlib.Core.Bool.{true}
+use mathlib.Core.List.{List, []}
+use lib.ListN.{length, getD, take, drop}
+use Rattle.model.specs.Plan.{Option, Task, option}
+use Rattle.model.specs.Cells.{mark}
+use Rattle.model.specs.Taking.{keeps}
+use Rattle.model.specs.Turns.{eachFrom}
+use Rattle.model.proofs.Turns.{each-length, each-at}
+use Rattle.block.specs.Layout.{modesIn}
+use Rattle.table.specs.Order.{blockAt, taskBlock}
+use Rattle.table.specs.Numbers.{TaskNumbers, taskNumbersIn, numbersIn}
+use Rattle.table.specs.Lawful.{LawfulWith}
+use Rattle.cells.specs.Rows.{held}
+use Rattle.options.specs.Tasks.{costAt, taskOf, tasksAt}
+use Rattle.options.specs.Arrays.{needAt, sixteen, needsOf, costsOf, InLimits}
+use Rattle.options.proofs.Choices.{Meets, held-keeps, held-need}
+use Rattle.options.proofs.Tables.{task-at, task-length, option-at, in-limits, sixteen-at}
+
+-- the mode held in place k of the arrays
+abbrev pub heldAt : List ℕ → List ℕ → ℕ → Option
+heldAt need cost k = held (getD need k 0) (getD cost k 0)
+
+pub record HeldAs (t : Task) (count : ℕ) (need cost : List ℕ) : Type 0 where
+  pub many : length t ≡ count
+  pub few : count ≤ 16
+  pub same : (k : ℕ) → k < count → (next : ℕ → ℕ) (c v : ℕ) → c < mark → keeps next c v (heldAt need cost k) ≡ keeps next c v (option t k)
+  pub cores : (k : ℕ) → k < count → (next : ℕ → ℕ) (c v : ℕ) → c < mark → keeps next c v (heldAt need cost k) ≡ true
+      → getD need k 0 ≡ option t k .need
+
+-- what the arrays hold
+in-turn : (f : ℕ → ℕ) (count k : ℕ) → k < count → getD (sixteen (eachFrom f 0 count)) k 0 ≡ f k
+in-turn f count k h =
+    sixteen-at (eachFrom f 0 count) k (rw (each-length f 0 count) h) ∙ each-at f 0 0 count k h ∙ ap f (zero-add k)
+
+module _ (H : ℕ) (t : TaskNumbers) (l : InLimits H t) (meeting : (k : ℕ) → k < t .modes → Meets t k) where
+  at : (k : ℕ) → k < t .modes → heldAt (sixteen (needsOf t)) (sixteen (costsOf H t)) k ≡ held (needAt t k) (costAt H t k)
+  at k h = ap₂ held (in-turn (needAt t) (t .modes) k h) (in-turn (costAt H t) (t .modes) k h)
+
+  task-held : HeldAs (taskOf H t) (t .modes) (sixteen (needsOf t)) (sixteen (costsOf H t))
+  task-held =
+      record {
+        many = task-length H t;
+        few = l .few;
+        same = λ k h next c v low.
+            ap (keeps next c v) (at k h) ∙ held-keeps H t k (meeting k h) next c low v ∙ ap (keeps next c v) (sym (option-at H t k h));
+        cores = λ k h next c v low kept.
+            in-turn (needAt t) (t .modes) k h ∙ held-need H t k (meeting k h) next c low v (sym (ap (keeps next c v) (at k h)) ∙ kept)
+            ∙ ap (λ (o : Option). o .need) (sym (option-at H t k h));
+      }
+
+-- task i of a lawful table, from what the loaders give of its block
+module _ {bytes : List ℕ} {n m H : ℕ} (l : LawfulWith bytes n m H) (i : ℕ) (more : i < n) where
+  in-table : i < numbersIn bytes .tasks
+  in-table = rw (l .tasks) more
+
+  pub block-limits : (block : List ℕ) → block ≡ take 512 (drop (512 * (i + 1)) bytes) → InLimits H (taskNumbersIn block)
+  unfolding blockAt
+  block-limits block e = rw (e, ← l .common) (in-limits (numbersIn bytes) i (l .table .numbers) in-table)
+
+  pub block-held : (block : List ℕ) (count : ℕ) (need cost : List ℕ) → block ≡ take 512 (drop (512 * (i + 1)) bytes) → count ≡ modesIn block
+      → need ≡ sixteen (needsOf (taskNumbersIn block)) → cost ≡ sixteen (costsOf H (taskNumbersIn block))
+      → HeldAs (getD (tasksAt bytes) i []) count need cost
+  unfolding blockAt
+  block-held block count need cost e c p q =
+      rw (task-at (numbersIn bytes) i in-table, c, p, q, e, ← l .common)
+      (task-held (numbersIn bytes .common) (taskNumbersIn (taskBlock bytes i)) (in-limits (numbersIn bytes) i (l .table .numbers) in-table)
+      (λ k h. l .table .numbers .mode i k in-table h .meeting))

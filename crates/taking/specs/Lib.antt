@@ -1,0 +1,3 @@
+pub mod Said
+pub mod Take
+pub mod Traces

@@ -1,0 +1,46 @@
+-- Taking the plan: from any contents of the workspace, just what those cells say.
+use Prim.Native.Nat.{ℕ}
+use mathlib.Core.List.{List, [], _∷_, _++_}
+use lib.Dec.{ltb}
+use lib.ListN.{length, drop}
+use Rattle.answer.specs.Said.{plan}
+use Rattle.answer.specs.Order.{Row, row, Outcome}
+use Rattle.model.specs.Workspace.{cellIn}
+use Rattle.model.specs.Taking.{used, takeRows, takeModes}
+use Rattle.table.specs.Order.{tableRows}
+use Rattle.table.specs.Numbers.{numbersIn}
+use Rattle.options.specs.Tasks.{tasksAt, coresOfTable, cellsOf}
+use Rattle.taking.specs.declared.Taken.{Taken}
+use Rattle.taking.specs.Said.{said}
+
+-- the cell in row i at column c, as it reads
+abbrev pub cellOf : List ℕ → List ℕ → ℕ → ℕ → ℕ
+cellOf bytes cells i c = cellIn (numbersIn bytes .tasks) (numbersIn bytes .cores) cells i c
+
+-- after the table's checks 15: the workspace, then the output, which needs n bytes, is too short; 16, 17: progress above W, below W
+abbrev pub lentRows : ℕ → ℕ → ℕ → ℕ → ℕ → List Row
+lentRows W n cells out p =
+    row 15 0 (ltb cells W)
+    ∷ row 15 0 (ltb out n)
+    ∷ row 16 0 (ltb W p)
+    ∷ row 17 0 (ltb p W)
+    ∷ []
+
+-- then 14 and 18
+unfoldable pub takingRows : List ℕ → List ℕ → ℕ → ℕ → List Row
+takingRows bytes cells p out =
+    tableRows bytes
+    ++ (lentRows (cellsOf bytes) (numbersIn bytes .tasks) (length cells) out p
+    ++ takeRows (cellOf bytes cells) (tasksAt bytes) (coresOfTable bytes))
+
+-- the modes, one byte per task, and the rest of the buffer as it was
+abbrev pub written : List ℕ → List ℕ → List ℕ
+written modes out = modes ++ drop (length modes) out
+
+-- the answer, cores used and cost, and the whole output afterwards
+abbrev pub TookPlan : List ℕ → List ℕ → ℕ → List ℕ → Taken → List ℕ → Type 0
+TookPlan bytes cells p before r after =
+    let rows = cellOf bytes cells in
+    let m = coresOfTable bytes in
+    Outcome (takingRows bytes cells p (length before)) (plan (used (rows 0) m) (rows 0 m)) before
+    (written (takeModes rows (tasksAt bytes) m) before) (said r) after

@@ -1,0 +1,166 @@
+// Takes the plan from a lent workspace.
+ghost use mathlib.Core.Path.{_≡_};
+ghost use Prim.Native.Nat.{_+_, _*_, _≤_, _<_};
+ghost use lib.ListN.{length, take as front};
+ghost use Rattle.answer.specs.Said.{refused};
+ghost use Rattle.model.specs.Workspace.{cellCount};
+ghost use Rattle.model.specs.Taking.{used as usedIn, keeps as keepsCost};
+ghost use Rattle.cells.specs.Rows.{held, rowFrom};
+ghost use Rattle.table.specs.Lawful.{LawfulWith};
+ghost use Rattle.taking.specs.Said.{said};
+ghost use Rattle.taking.specs.Take.{written, TookPlan};
+ghost use Rattle.taking.specs.Traces.{TracedFrom};
+use answer::Refusal;
+use cells::onward;
+use cells::reads;
+use options::costs;
+use options::modes as mode_count;
+use options::needs;
+use table::Reading;
+use table::check;
+use table::refusal_of;
+use table::task_block;
+
+// What taking the plan answers: the refusal, or the cores used and the cost.
+pub enum Taken {
+    Refused(Refusal),
+    Plan { cores: u32, cost: u64 },
+}
+
+// Its own refusals name block 0.
+fn refuse(number: u8) -> Taken
+    ensures { λ r. ⌜ said r ≡ refused number 0 ⌝ }
+{
+    Taken::Refused(Refusal { number, at: 0 })
+}
+
+// The smallest column whose cost equals that of column m, in the row whose cells start at a number.
+fn smallest(cells: &[u64], start: usize, m: usize) -> usize
+    requires { ⌜ start + m < length (now cells) ⌝ }
+    ensures { λ r. ⌜ r ≡ usedIn (rowFrom (now (cells .entry)) start) m ⌝ }
+{
+    let last = reads(cells[start + m]);
+    let mut column = 0;
+    let used = loop {
+        if reads(cells[start + column]) == last {
+            break column;
+        }
+        column += 1;
+    };
+    used
+}
+
+// Whether a mode keeps the cost of a cell in this column; the next row's cells start at `next`.
+fn keeps(need: u64, cost: u64, cells: &[u64], next: usize, column: usize, cell: u64) -> bool
+    requires { ⌜ next + column < length (now cells) ⌝ }
+    ensures { λ r. ⌜ r ≡ keepsCost (rowFrom (now (cells .entry)) next) column cell (held need cost) ⌝ }
+{
+    if column < need as usize {
+        return false;
+    }
+    onward(need, cost, cells, next, column) == cell
+}
+
+// The modes that the search found, one for each task, or that not all tasks have one.
+struct Traced {
+    pub all: bool,
+    pub modes: [u8; 32],
+}
+
+// From column `used` of row 0, each task in turn gets the lowest permitted mode that keeps the cell's cost. A task's options are loaded
+// once.
+fn trace(table: &[u8], common: u32, n: usize, m: usize, cells: &[u64], used: usize) -> Traced
+    requires { ⌜ LawfulWith (now table) n m common ⌝ }
+    requires { ⌜ (used ≤ m) × (cellCount n m ≤ length (now cells)) ⌝ }
+    ensures { λ r. ⌜ TracedFrom (now (table .entry)) (now (cells .entry)) n used r ⌝ }
+{
+    let mut modes = [0u8; 32];
+    let mut i: usize = 0;
+    let mut column = used;
+    let mut start = n * (m + 1);
+    let all = 'tasks: loop {
+        if i == n {
+            break 'tasks true;
+        }
+        let cell = reads(cells[start + column]);
+        let next = start - (m + 1);
+        let block = task_block(table, i as u32);
+        let count = mode_count(block);
+        let need = needs(block);
+        let cost = costs(block, common);
+        let mut j: usize = 0;
+        let cores = 'lowest: loop {
+            if j == count {
+                break 'tasks false;
+            }
+            if keeps(need[j], cost[j], cells, next, column, cell) {
+                break 'lowest need[j] as usize;
+            }
+            j += 1;
+        };
+        modes[i] = j as u8;
+        column -= cores;
+        start = next;
+        i += 1;
+    };
+    Traced { all, modes }
+}
+
+// Puts one byte for each task at the front of the output; the rest stays.
+fn put(modes: &[u8], n: usize, out: &mut [u8])
+    requires { ⌜ (n ≤ length (now modes)) × (n ≤ length (now out)) ⌝ }
+    ensures { λ _. ⌜ now (out .exit) ≡ written (front n (now (modes .entry))) (now (out .entry)) ⌝ }
+{
+    let mut i = 0;
+    while i < n {
+        out[i] = modes[i];
+        i += 1;
+    }
+}
+
+// Takes the plan: cores used and cost, and one byte per task into the output. Nothing is written before the last test.
+pub fn take(table: &[u8], cells: &[u64], progress: u32, out: &mut [u8]) -> Taken
+    ensures { λ r. ⌜ TookPlan (now (table .entry)) (now (cells .entry)) progress (now (out .entry)) r (now (out .exit)) ⌝ }
+{
+    let got = check(table);
+    let Reading::Header {
+        tasks,
+        cores,
+        common,
+    } = got
+    else {
+        return Taken::Refused(refusal_of(got));
+    };
+    let n = tasks as usize;
+    let m = cores as usize;
+    let count = (n + 1) * (m + 1);
+    if cells.len() < count {
+        return refuse(15);
+    }
+    if out.len() < n {
+        return refuse(15);
+    }
+    let p = progress as usize;
+    if count < p {
+        return refuse(16);
+    }
+    if p < count {
+        return refuse(17);
+    }
+    let start = n * (m + 1);
+    let cost = reads(cells[start + m]);
+    if cost == cells::MARK {
+        return refuse(14);
+    }
+    let used = smallest(cells, start, m);
+    let found = trace(table, common, n, m, cells, used);
+    if !found.all {
+        return refuse(18);
+    }
+    let modes = found.modes;
+    put(&modes, n, out);
+    Taken::Plan {
+        cores: used as u32,
+        cost,
+    }
+}
