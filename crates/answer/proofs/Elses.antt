@@ -25,6 +25,10 @@ pub record Tells (R : Type 0) : Type 0 where
   pub says : ℕ → ℕ
   pub told : (r : R) → kind (said r) ≡ says (tag r)
 
+-- an answer that is found again from what it says is the only one that says it
+pub one-said : {R : Type 0} (said : R → Said) (unsaid : Said → R) → ((r : R) → unsaid (said r) ≡ r) → {s : Said} (x y : R) → said x ≡ s → said y ≡ s → x ≡ y
+one-said said unsaid back x y p q = sym (back x) ∙ ap unsaid (p ∙ sym q) ∙ back y
+
 module _ {R : Type 0} (e : Tells R) where
   other : (ks : List ℕ) (r : R) (k : ℕ) → T (not (hasKey (map (e .says) ks) k)) → OneOf ks (e .tag r) → kind (e .said r) ≡ k → ⊥
   other ks r k out one same =

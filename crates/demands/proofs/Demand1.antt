@@ -21,7 +21,7 @@ use Rattle.table.specs.Numbers.{numbersIn}
 use Rattle.block.specs.Layout.{threes}
 use Rattle.writer.specs.Order.{roomRows, writeHeaderRows, numberRows, writeTaskRows}
 use Rattle.portions.specs.Portion.{ownRows, portionRows}
-use Rattle.options.specs.Tasks.{tasksAt, coresOfTable, cellsOf}
+use Rattle.options.specs.Tasks.{tasksOfTable, coresOfTable, cellsOfTable}
 use Rattle.taking.specs.Take.{cellOf, lentRows, takingRows}
 use Rattle.taking.specs.declared.Taken.{Taken}
 use Rattle.taking.specs.Said as taking
@@ -130,19 +130,19 @@ task-rows H number E modes permitted figures room =
 
 portion-rows : (bytes : List ℕ) (room p : ℕ) → Each (With bytes (15 ∷ 16 ∷ [])) (portionRows bytes room p)
 unfolding portionRows
-portion-rows bytes room p = lent bytes (15 ∷ 16 ∷ []) (ownRows (cellsOf bytes) room p) (inr (tt, refl), (inr (tt, refl), tt))
+portion-rows bytes room p = lent bytes (15 ∷ 16 ∷ []) (ownRows (cellsOfTable bytes) room p) (inr (tt, refl), (inr (tt, refl), tt))
 
 taking-rows : (bytes cells : List ℕ) (p out : ℕ) → Each (With bytes (14 ∷ 15 ∷ 16 ∷ 17 ∷ 18 ∷ [])) (takingRows bytes cells p out)
 unfolding takingRows takeRows
 taking-rows bytes cells p out =
     lent bytes (14 ∷ 15 ∷ 16 ∷ 17 ∷ 18 ∷ [])
-    (lentRows (cellsOf bytes) (numbersIn bytes .tasks) (length cells) out p ++ takeRows (cellOf bytes cells) (tasksAt bytes) (coresOfTable bytes))
+    (lentRows (cellsOfTable bytes) (numbersIn bytes .tasks) (length cells) out p ++ takeRows (cellOf bytes cells) (tasksOfTable bytes) (coresOfTable bytes))
     (inr (tt, refl), (inr (tt, refl), (inr (tt, refl), (inr (tt, refl), (inr (tt, refl), (inr (tt, refl), tt))))))
 
 whole-rows : (bytes : List ℕ) (cells out : ℕ) → Each (With bytes (14 ∷ 15 ∷ [])) (wholeRows bytes cells out)
 unfolding wholeRows
 whole-rows bytes cells out =
-    lent bytes (14 ∷ 15 ∷ []) (row 15 0 (ltb cells (cellsOf bytes)) ∷ row 15 0 (ltb out (numbersIn bytes .tasks)) ∷ [])
+    lent bytes (14 ∷ 15 ∷ []) (row 15 0 (ltb cells (cellsOfTable bytes)) ∷ row 15 0 (ltb out (numbersIn bytes .tasks)) ∷ [])
     (inr (tt, refl), (inr (tt, refl), tt))
 
 module _ (bytes cells out : List ℕ) (s : Said) where
@@ -187,7 +187,7 @@ demand-1 =
       write-task = λ H number E modes permitted figures before r after o.
           outcome _ _ _ written before _ after (λ z. omega (arith, z)) (task-rows H number E modes permitted figures (length before)) o;
       portion = λ bytes before p b r after o.
-          outcome _ _ _ (filled (advance (cellsOf bytes) p b)) before _ after (λ z. omega (arith, z)) (portion-rows bytes (length before) p) (o .outcome);
+          outcome _ _ _ (filled (advance (cellsOfTable bytes) p b)) before _ after (λ z. omega (arith, z)) (portion-rows bytes (length before) p) (o .outcome);
       take = λ bytes cells p before r after o.
           outcome _ _ _ (plan _ _) before _ after (λ z. omega (arith, z)) (taking-rows bytes cells p (length before)) o;
       plan-whole = whole;

@@ -27,10 +27,10 @@ use Rattle.table.proofs.Held.{Holds, holds-none, none-holds, task-asked, mode-a
 use Rattle.model.specs.Workspace.{advance}
 use Rattle.model.proofs.Fills.{fill-length, fill-outside}
 use Rattle.model.proofs.Locals.{fill-holds, rule-local}
-use Rattle.options.specs.Tasks.{optionOf, taskOf, tasksOf, tasksAt, coresOfTable, cellsOf}
+use Rattle.options.specs.Tasks.{optionOf, taskOf, tasksOf, tasksOfTable, coresOfTable, cellsOfTable}
 use Rattle.portions.specs.Portion.{ruleOf}
 use Rattle.portions.proofs.Laws.{step-went}
-use Rattle.demands.specs.Demand2.{ReadsAs, WrittenAs, EveryLawfulTableIsAccepted, WrittenAndReadBack, ReadAndRewritten, APortionFillsJustTheCellsItPaysFor}
+use Rattle.demands.specs.Demand2.{ReadsAs, WrittenAs, EveryLawfulTableIsAccepted, WrittenAndReadBack, ReadAndRewritten, APortionFillsJustTheCellsItPaysFor, Demand2}
 use Rattle.demands.proofs.Blocks.{together, length-together, block-together, bytes-together, same-blocks}
 use Rattle.demands.proofs.Writers.{header-made, header-writes, header-wrote, task-block, task-made, task-writes, task-wrote}
 
@@ -177,7 +177,7 @@ module _ (bytes : List ℕ) (b : Bytes bytes) (p : NoneGiven (tableRows bytes)) 
     pub cores-same : numbersIn bytes .cores ≡ t .cores
     cores-same = let e = front-same in cc
 
-    pub common-same : numbersIn bytes .common ≡ t .common
+    common-same : numbersIn bytes .common ≡ t .common
     common-same = let e = front-same in cc
 
     module _ (i : ℕ) (less : i < t .tasks) where
@@ -225,7 +225,7 @@ module _ (bytes : List ℕ) (b : Bytes bytes) (p : NoneGiven (tableRows bytes)) 
           (each-same (optionOf H (numbersIn bytes .task i)) (optionOf H (t .task i)) 0 (t .task i .modes) (λ j low high. option-same H j (omega arith)))
 
     -- the planner sees the same tasks
-    pub tasks-read : tasksAt bytes ≡ tasksOf t
+    pub tasks-read : tasksOfTable bytes ≡ tasksOf t
     unfolding tasksOf
     tasks-read =
         rw (tasks-same, common-same)
@@ -259,15 +259,24 @@ a-portion-fills-just-the-cells-it-pays-for bytes before p b after q s =
     let P = w .progress in
     let I = w .within in
     let R = w .room in
-    let k : p + (advance (cellsOf bytes) p b - p) ≡ q = omega arith in
+    let k : p + (advance (cellsOfTable bytes) p b - p) ≡ q = omega arith in
     record {
       progress = P;
       paid = omega arith;
-      as-many = ap length (w .cells) ∙ fill-length (ruleOf bytes) before p (advance (cellsOf bytes) p b - p);
+      as-many = ap length (w .cells) ∙ fill-length (ruleOf bytes) before p (advance (cellsOfTable bytes) p b - p);
       filled-by-rule = λ c low high.
           subst (λ (e : List ℕ). getD e c 0 ≡ ruleOf bytes e c) (sym (w .cells))
-          (fill-holds (ruleOf bytes) (rule-local (tasksAt bytes) (coresOfTable bytes)) before p (advance (cellsOf bytes) p b - p) c low (omega arith) (omega arith));
+          (fill-holds (ruleOf bytes) (rule-local (tasksOfTable bytes) (coresOfTable bytes)) before p (advance (cellsOfTable bytes) p b - p) c low (omega arith) (omega arith));
       others = λ c h.
           ap (λ (e : List ℕ). getD e c 0) (w .cells)
-          ∙ fill-outside (ruleOf bytes) before p (advance (cellsOf bytes) p b - p) c 0 (⊎-elim (λ low. inl low) (λ high. inr (omega arith)) h);
+          ∙ fill-outside (ruleOf bytes) before p (advance (cellsOfTable bytes) p b - p) c 0 (⊎-elim (λ low. inl low) (λ high. inr (omega arith)) h);
+    }
+
+pub demand-2 : Demand2
+demand-2 =
+    record {
+      accepted = every-lawful-table-is-accepted;
+      read-back = written-and-read-back;
+      rewritten = read-and-rewritten;
+      portion = a-portion-fills-just-the-cells-it-pays-for;
     }

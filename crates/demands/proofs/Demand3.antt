@@ -21,42 +21,42 @@ use Rattle.table.specs.Order.{headerBlock, headerSaid, tableRows}
 use Rattle.table.specs.Numbers.{numbersIn}
 use Rattle.table.specs.Lawful.{LawfulTable}
 use Rattle.table.proofs.Accepted.{lawful}
-use Rattle.options.specs.Tasks.{tasksAt, coresOfTable, cellsOf}
+use Rattle.options.specs.Tasks.{tasksOfTable, coresOfTable, cellsOfTable}
 use Rattle.options.proofs.Tables.{tasks-length, limits}
 use Rattle.portions.specs.Portion.{ownRows, portionRows, ruleOf, FilledTo}
 use Rattle.portions.specs.Runs.{Run}
 use Rattle.portions.proofs.Laws.{step-went, run-is}
 use Rattle.taking.specs.declared.Taken.{Taken}
 use Rattle.taking.specs.Said.{said}
-use Rattle.taking.specs.Take.{cellOf, lentRows, takingRows, written, TookPlan}
+use Rattle.taking.specs.Take.{cellOf, lentRows, takingRows, withModes, TookPlan}
 use Rattle.demands.specs.Whole.{PlanGiven, NoPlanFits}
-use Rattle.demands.specs.Demand3.{RightAnswer, NoPortionIsRefused, Asked, ThePlanIsRight}
+use Rattle.demands.specs.Demand3.{RightAnswer, NoPortionIsRefused, Asked, ThePlanIsRight, Demand3}
 
 -- ---- over cells that hold their defined values
-module _ (bytes cells : List ℕ) (table : LawfulTable bytes) (f : FilledTo bytes cells (cellsOf bytes)) where
+module _ (bytes cells : List ℕ) (table : LawfulTable bytes) (f : FilledTo bytes cells (cellsOfTable bytes)) where
   abbrev rows : ℕ → ℕ → ℕ
   rows = cellOf bytes cells
 
-  holds : Holds rows (tasksAt bytes) (coresOfTable bytes)
+  holds : Holds rows (tasksOfTable bytes) (coresOfTable bytes)
   holds =
-      subst (λ (n : ℕ). Holds (cellIn n (coresOfTable bytes) cells) (tasksAt bytes) (coresOfTable bytes)) (tasks-length (numbersIn bytes))
-      (filled-holds (tasksAt bytes) (coresOfTable bytes) cells
+      subst (λ (n : ℕ). Holds (cellIn n (coresOfTable bytes) cells) (tasksOfTable bytes) (coresOfTable bytes)) (tasks-length (numbersIn bytes))
+      (filled-holds (tasksOfTable bytes) (coresOfTable bytes) cells
       (subst (λ (n : ℕ). FilledTo bytes cells (cellCount n (coresOfTable bytes))) (sym (tasks-length (numbersIn bytes))) f))
 
-  right : Right (tasksAt bytes) (coresOfTable bytes) (takeSaid rows (tasksAt bytes) (coresOfTable bytes)) (takeModes rows (tasksAt bytes) (coresOfTable bytes))
-  right = take-right rows (tasksAt bytes) (coresOfTable bytes) (limits (numbersIn bytes) (table .numbers)) holds
+  right : Right (tasksOfTable bytes) (coresOfTable bytes) (takeSaid rows (tasksOfTable bytes) (coresOfTable bytes)) (takeModes rows (tasksOfTable bytes) (coresOfTable bytes))
+  right = take-right rows (tasksOfTable bytes) (coresOfTable bytes) (limits (numbersIn bytes) (table .numbers)) holds
 
-  module _ (none : NoneGiven (tableRows bytes)) (room : cellsOf bytes ≤ length cells) (out : List ℕ) (r : Taken) (out' : List ℕ)
-      (space : numbersIn bytes .tasks ≤ length out) (took : TookPlan bytes cells (cellsOf bytes) out r out') where
+  module _ (none : NoneGiven (tableRows bytes)) (room : cellsOfTable bytes ≤ length cells) (out : List ℕ) (r : Taken) (out' : List ℕ)
+      (space : numbersIn bytes .tasks ≤ length out) (took : TookPlan bytes cells (cellsOfTable bytes) out r out') where
     -- none of the rows up to 17 is given, so 14 and 18 decide
     by-cells :
-        Outcome (takeRows rows (tasksAt bytes) (coresOfTable bytes)) (plan (used (rows 0) (coresOfTable bytes)) (rows 0 (coresOfTable bytes))) out
-        (written (takeModes rows (tasksAt bytes) (coresOfTable bytes)) out) (said r) out'
+        Outcome (takeRows rows (tasksOfTable bytes) (coresOfTable bytes)) (plan (used (rows 0) (coresOfTable bytes)) (rows 0 (coresOfTable bytes))) out
+        (withModes (takeModes rows (tasksOfTable bytes) (coresOfTable bytes)) out) (said r) out'
     unfolding takingRows
     by-cells =
-        let W = cellsOf bytes in
+        let W = cellsOfTable bytes in
         let lent = lentRows W (numbersIn bytes .tasks) (length cells) (length out) W in
-        let own = takeRows rows (tasksAt bytes) (coresOfTable bytes) in
+        let own = takeRows rows (tasksOfTable bytes) (coresOfTable bytes) in
         let same : W ≤ W = omega arith in
         beyond lent own _ out _ (le-ltb _ _ room, (le-ltb _ _ space, (le-ltb _ _ same, (le-ltb _ _ same, tt))))
         (beyond (tableRows bytes) (lent ++ own) _ out _ none took)
@@ -64,16 +64,16 @@ module _ (bytes cells : List ℕ) (table : LawfulTable bytes) (f : FilledTo byte
     taken : ((s : List ℕ) × PlanGiven bytes s out r out') ⊎ NoPlanFits bytes out r out'
     taken = go right
       where
-        go : Right (tasksAt bytes) (coresOfTable bytes) (takeSaid rows (tasksAt bytes) (coresOfTable bytes)) (takeModes rows (tasksAt bytes) (coresOfTable bytes))
+        go : Right (tasksOfTable bytes) (coresOfTable bytes) (takeSaid rows (tasksOfTable bytes) (coresOfTable bytes)) (takeModes rows (tasksOfTable bytes) (coresOfTable bytes))
             → ((s : List ℕ) × PlanGiven bytes s out r out') ⊎ NoPlanFits bytes out r out'
         go (inl (p, e)) =
             let answer = by-cells .says ∙ e in
             inl (
-              takeModes rows (tasksAt bytes) (coresOfTable bytes),
+              takeModes rows (tasksOfTable bytes) (coresOfTable bytes),
               record {
                 plan-is = p;
                 answer = answer;
-                modes = gone (takeRows rows (tasksAt bytes) (coresOfTable bytes)) _ out _ (λ z. omega (arith, ap kind answer)) by-cells .1;
+                modes = gone (takeRows rows (tasksOfTable bytes) (coresOfTable bytes)) _ out _ (λ z. omega (arith, ap kind answer)) by-cells .1;
               },
             )
         go (inr (n, e)) =
@@ -81,11 +81,11 @@ module _ (bytes cells : List ℕ) (table : LawfulTable bytes) (f : FilledTo byte
             inr record {
               nothing = n;
               answer = answer;
-              kept = unchanged (takeRows rows (tasksAt bytes) (coresOfTable bytes)) _ out _ (λ z. omega (arith, ap kind answer)) by-cells;
+              kept = unchanged (takeRows rows (tasksOfTable bytes) (coresOfTable bytes)) _ out _ (λ z. omega (arith, ap kind answer)) by-cells;
             }
 
     exactly : ((s : List ℕ) × PlanGiven bytes s out r out') ⊎ NoPlanFits bytes out r out'
-        → (said r ≡ refused 14 0) ↔ NothingFits (tasksAt bytes) (coresOfTable bytes)
+        → (said r ≡ refused 14 0) ↔ NothingFits (tasksOfTable bytes) (coresOfTable bytes)
     exactly (inl (s, g)) =
         (λ e. absurd (let z : _≡_ {A = ℕ} 6 0 = ap kind (sym (g .answer) ∙ e) in omega arith), λ n. absurd (n s (g .plan-is .lawful) (g .plan-is .fits)))
     exactly (inr g) = (λ e. g .nothing, λ n. g .answer)
@@ -95,18 +95,18 @@ module _ (bytes cells : List ℕ) (table : LawfulTable bytes) (f : FilledTo byte
 
 -- ---- over a run of portions
 -- the cells below the progress hold their defined values
-pub run-filled : (bytes budgets before after : List ℕ) (p q : ℕ) → Run bytes budgets before p after q → FilledTo bytes before p → FilledTo bytes after q
+run-filled : (bytes budgets before after : List ℕ) (p q : ℕ) → Run bytes budgets before p after q → FilledTo bytes before p → FilledTo bytes after q
 run-filled bytes [] before after p q (same, is) f c low = ap (λ (x : List ℕ). getD x c 0) (sym same) ∙ f c (omega arith)
 run-filled bytes (b ∷ bs) before after p q (mid, between, s, run) f c low =
     run-filled bytes bs mid after between q run (s .allowed .counts between (s .gave) f) c low
 
 -- the workspace stays as long, and the progress within it
-pub run-within : (bytes budgets before after : List ℕ) (q : ℕ) → Run bytes budgets before 0 after q → (length after ≡ length before) × (q ≤ cellsOf bytes)
+run-within : (bytes budgets before after : List ℕ) (q : ℕ) → Run bytes budgets before 0 after q → (length after ≡ length before) × (q ≤ cellsOfTable bytes)
 run-within bytes bs before after q run =
     let r = run-is bytes bs before after 0 q run in
-    let i = progress-within (ruleOf bytes) (cellsOf bytes) 0 bs (omega arith) in (
-      ap length (r .0 ∙ portions-fill (ruleOf bytes) (cellsOf bytes) before 0 bs (omega arith))
-          ∙ fill-length (ruleOf bytes) before 0 (progressAfter (cellsOf bytes) 0 bs - 0),
+    let i = progress-within (ruleOf bytes) (cellsOfTable bytes) 0 bs (omega arith) in (
+      ap length (r .0 ∙ portions-fill (ruleOf bytes) (cellsOfTable bytes) before 0 bs (omega arith))
+          ∙ fill-length (ruleOf bytes) before 0 (progressAfter (cellsOfTable bytes) 0 bs - 0),
       omega (arith, r .1, i),
     )
 
@@ -123,16 +123,16 @@ run-accepted bytes (b ∷ bs) before after q some (mid, between, s, run) = step-
 -- what is asked for of filled cells: the table is lawful
 asked-none : {bytes out : List ℕ} {r : Taken} {out' : List ℕ} → Asked bytes out r out' → NoneGiven (tableRows bytes)
 asked-none {bytes} a =
-    run-accepted bytes (a .budgets) (a .cells) (a .filling) (cellsOf bytes) (some-cell (numbersIn bytes .tasks) (numbersIn bytes .cores)) (a .portions)
+    run-accepted bytes (a .budgets) (a .cells) (a .filling) (cellsOfTable bytes) (some-cell (numbersIn bytes .tasks) (numbersIn bytes .cores)) (a .portions)
 
 pub asked-lawful : {bytes out : List ℕ} {r : Taken} {out' : List ℕ} → Asked bytes out r out' → LawfulTable bytes
 asked-lawful {bytes} a = lawful bytes (a .table) (asked-none a)
 
 pub the-plan-is-right : ThePlanIsRight
 the-plan-is-right bytes out r out' a =
-    let w = run-within bytes (a .budgets) (a .cells) (a .filling) (cellsOf bytes) (a .portions) in
+    let w = run-within bytes (a .budgets) (a .cells) (a .filling) (cellsOfTable bytes) (a .portions) in
     right-answer bytes (a .filling) (asked-lawful a)
-    (run-filled bytes (a .budgets) (a .cells) (a .filling) 0 (cellsOf bytes) (a .portions) (λ c low. absurd (omega arith))) (asked-none a)
+    (run-filled bytes (a .budgets) (a .cells) (a .filling) 0 (cellsOfTable bytes) (a .portions) (λ c low. absurd (omega arith))) (asked-none a)
     (omega (arith, w .0, a .workspace)) out r out' (a .room) (a .took)
 
 pub no-portion-is-refused : NoPortionIsRefused
@@ -140,9 +140,12 @@ unfolding portionRows
 no-portion-is-refused bytes cells accepted room budgets filling p run b r after o =
     let w = run-within bytes budgets cells filling p run in
     let none = first-none (tableRows bytes) (headerSaid (headerBlock bytes)) (λ z. omega (arith, z)) (sym (accepted .3)) in
-    let long : cellsOf bytes ≤ length filling = omega (arith, w .0) in (
-      advance (cellsOf bytes) p b,
+    let long : cellsOfTable bytes ≤ length filling = omega (arith, w .0) in (
+      advance (cellsOfTable bytes) p b,
       o .outcome .says
           ∙ none-first (portionRows bytes (length filling) p) _
-          (append-none (tableRows bytes) (ownRows (cellsOf bytes) (length filling) p) none (le-ltb _ _ long, (le-ltb _ _ (w .1), tt))),
+          (append-none (tableRows bytes) (ownRows (cellsOfTable bytes) (length filling) p) none (le-ltb _ _ long, (le-ltb _ _ (w .1), tt))),
     )
+
+pub demand-3 : Demand3
+demand-3 = record { plan = the-plan-is-right; portions = no-portion-is-refused }

@@ -1,5 +1,6 @@
 -- The document's starred examples, by computing the listing of all selections. Assumes nothing.
 use mathlib.Core.Path.{_≡_, refl}
+use mathlib.Core.Logic.{inl, inr}
 use mathlib.Core.List.{List, [], _∷_}
 use Prim.Native.Nat.{ℕ}
 use Rattle.model.specs.Turns.{eachFrom}
@@ -28,5 +29,32 @@ pub the-examples-hold : TheExamplesHold
 unfolding allows listing sample sampleTasks taskWith tasksOf taskOf eachFrom totalCores totalCost numbers each selections then lower asGood better bestOf
 the-examples-hold = (
   refl,
-  (refl, (refl, (refl, (refl, (refl, (refl, (refl, (refl, (lost 2 refl, ((found 3 _ refl, refl), ((plan-of-5, refl), ((plan-of-6, refl), tt)))))))))))),
+  (
+    refl,
+    (
+      refl,
+      (
+        refl,
+        (
+          refl,
+          (
+            refl,
+            (
+              refl,
+              (
+                refl,
+                (
+                  refl,
+                  (
+                    inr (lost 2 refl, refl),
+                    (inl (found 3 _ refl, refl), (inl (found 5 _ refl, refl), (inl (found 6 _ refl, refl), tt))),
+                  ),
+                ),
+              ),
+            ),
+          ),
+        ),
+      ),
+    ),
+  ),
 )

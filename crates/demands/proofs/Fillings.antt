@@ -15,7 +15,7 @@ use Rattle.answer.proofs.Outcomes.{stops, goes, unchanged}
 use Rattle.model.specs.Workspace.{fill, advance}
 use Rattle.model.proofs.Fills.{fill-length, fill-chain}
 use Rattle.table.specs.Order.{tableRows}
-use Rattle.options.specs.Tasks.{cellsOf}
+use Rattle.options.specs.Tasks.{cellsOfTable}
 use Rattle.portions.specs.declared.Filling.{Filling}
 use Rattle.portions.specs.Said.{said}
 use Rattle.portions.specs.Portion.{ownRows, portionRows, ruleOf, Portioned}
@@ -25,12 +25,12 @@ module _ (bytes before : List ℕ) where
   -- the end: what a portion's rows say, or every cell filled
   abbrev pub Filled : Said → List ℕ → Type 0
   Filled s e =
-      Outcome (portionRows bytes (length before) 0) (filled (cellsOf bytes)) before (fill (ruleOf bytes) before 0 (cellsOf bytes)) s e
+      Outcome (portionRows bytes (length before) 0) (filled (cellsOfTable bytes)) before (fill (ruleOf bytes) before 0 (cellsOfTable bytes)) s e
 
   -- p cells are filled; past the first portion no row is given
   pub record At (cells : List ℕ) (p : ℕ) : Type 0 where
     pub so-far : cells ≡ fill (ruleOf bytes) before 0 p
-    pub since : (p ≡ 0) ⊎ (NoneGiven (portionRows bytes (length before) 0) × (p ≤ cellsOf bytes))
+    pub since : (p ≡ 0) ⊎ (NoneGiven (portionRows bytes (length before) 0) × (p ≤ cellsOfTable bytes))
 
   pub begin : At before 0
   unfolding fill
@@ -46,21 +46,21 @@ module _ (bytes before : List ℕ) where
       unfolding fill portionRows
       turned-away other = go (a .since)
         where
-          go : (p ≡ 0) ⊎ (NoneGiven (portionRows bytes (length before) 0) × (p ≤ cellsOf bytes)) → Filled (said r) e
+          go : (p ≡ 0) ⊎ (NoneGiven (portionRows bytes (length before) 0) × (p ≤ cellsOfTable bytes)) → Filled (said r) e
           go (inl zero-yet) =
               let same : cells ≡ before = a .so-far ∙ ap (fill (ruleOf bytes) before 0) zero-yet in
               let kept : e ≡ before = unchanged (portionRows bytes (length cells) p) _ cells _ (λ z. other z) (o .outcome) ∙ same in
-              let says : said r ≡ first (portionRows bytes (length before) 0) (filled (advance (cellsOf bytes) p b)) =
+              let says : said r ≡ first (portionRows bytes (length before) 0) (filled (advance (cellsOfTable bytes) p b)) =
               o .outcome .says
-              ∙ ap₂ (λ (l q : ℕ). first (portionRows bytes l q) (filled (advance (cellsOf bytes) p b))) long zero-yet in
-              let end = stops (portionRows bytes (length before) 0) (filled (advance (cellsOf bytes) p b)) (filled (cellsOf bytes)) before
-              (fill (ruleOf bytes) before 0 (cellsOf bytes)) (λ z. other z) says in
+              ∙ ap₂ (λ (l q : ℕ). first (portionRows bytes l q) (filled (advance (cellsOfTable bytes) p b))) long zero-yet in
+              let end = stops (portionRows bytes (length before) 0) (filled (advance (cellsOfTable bytes) p b)) (filled (cellsOfTable bytes)) before
+              (fill (ruleOf bytes) before 0 (cellsOfTable bytes)) (λ z. other z) says in
               record { says = end .says; leaves = kept ∙ end .leaves }
           go (inr (none, within)) =
-              let parts = none-append (tableRows bytes) (ownRows (cellsOf bytes) (length before) 0) none in
-              let mine = append-none (tableRows bytes) (ownRows (cellsOf bytes) (length cells) p) (parts .0)
-              (ap (λ (l : ℕ). ltb l (cellsOf bytes)) long ∙ parts .1 .0, (le-ltb _ _ within, tt)) in
-              absurd (other (ap kind (o .outcome .says ∙ none-first (portionRows bytes (length cells) p) (filled (advance (cellsOf bytes) p b)) mine)))
+              let parts = none-append (tableRows bytes) (ownRows (cellsOfTable bytes) (length before) 0) none in
+              let mine = append-none (tableRows bytes) (ownRows (cellsOfTable bytes) (length cells) p) (parts .0)
+              (ap (λ (l : ℕ). ltb l (cellsOfTable bytes)) long ∙ parts .1 .0, (le-ltb _ _ within, tt)) in
+              absurd (other (ap kind (o .outcome .says ∙ none-first (portionRows bytes (length cells) p) (filled (advance (cellsOfTable bytes) p b)) mine)))
 
       module _ {q : ℕ} (same : said r ≡ filled q) where
         w : Went bytes cells p b q e
@@ -69,9 +69,9 @@ module _ (bytes before : List ℕ) where
         none : NoneGiven (portionRows bytes (length before) 0)
         unfolding portionRows
         none =
-            let room : cellsOf bytes ≤ length before = omega (arith, w .room, long) in
-            let low : 0 ≤ cellsOf bytes = omega arith in
-            append-none (tableRows bytes) (ownRows (cellsOf bytes) (length before) 0) (w .none) (le-ltb _ _ room, (le-ltb _ _ low, tt))
+            let room : cellsOfTable bytes ≤ length before = omega (arith, w .room, long) in
+            let low : 0 ≤ cellsOfTable bytes = omega arith in
+            append-none (tableRows bytes) (ownRows (cellsOfTable bytes) (length before) 0) (w .none) (le-ltb _ _ room, (le-ltb _ _ low, tt))
 
         -- a new progress
         pub turn : At e q
@@ -86,11 +86,11 @@ module _ (bytes before : List ℕ) where
             }
 
         -- is further on, or all cells are filled
-        pub further : q ≢ p → (p < q) × (q ≤ cellsOf bytes)
+        pub further : q ≢ p → (p < q) × (q ≤ cellsOfTable bytes)
         further other = omega (arith, w .within, w .progress)
 
         pub all : 1 ≤ b → q ≡ p → Filled (filled q) e
         all some still =
-            let end : q ≡ cellsOf bytes = omega (arith, w .within, w .progress) in
-            goes (portionRows bytes (length before) 0) (filled (cellsOf bytes)) before (fill (ruleOf bytes) before 0 (cellsOf bytes)) none
+            let end : q ≡ cellsOfTable bytes = omega (arith, w .within, w .progress) in
+            goes (portionRows bytes (length before) 0) (filled (cellsOfTable bytes)) before (fill (ruleOf bytes) before 0 (cellsOfTable bytes)) none
             (ap filled end) (turn .so-far ∙ ap (fill (ruleOf bytes) before 0) end)

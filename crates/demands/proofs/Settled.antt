@@ -11,10 +11,10 @@ use Rattle.answer.specs.One.{One}
 use Rattle.answer.proofs.Rows.{kind, none-first}
 use Rattle.model.specs.Plan.{totalCores, totalCost}
 use Rattle.model.proofs.Order.{one-plan}
-use Rattle.options.specs.Tasks.{tasksAt, coresOfTable}
+use Rattle.options.specs.Tasks.{tasksOfTable, coresOfTable}
 use Rattle.taking.specs.declared.Taken.{Taken}
 use Rattle.taking.specs.Said.{said}
-use Rattle.taking.specs.Take as take
+use Rattle.taking.specs.Take.{withModes}
 use Rattle.taking.proofs.Answers.{one-answer}
 use Rattle.demands.specs.Whole.{wholeRows, RefusedFirst, Ends, Planned, PlannedWhole}
 use Rattle.demands.proofs.plan_whole.Kinds as plan-whole-kinds
@@ -38,10 +38,10 @@ module _ (bytes cells out : List ℕ) where
     where
       go : Ends bytes cells out x c o → Ends bytes cells out y d p → Same x c o y d p
       go (inl (s, g, f)) (inl (t, h, k)) =
-          let e = one-plan (tasksAt bytes) (coresOfTable bytes) s t (g .plan-is) (h .plan-is) in (
-            g .answer ∙ ap₂ plan (ap (totalCores (tasksAt bytes)) e) (ap (totalCost (tasksAt bytes)) e) ∙ sym (h .answer),
+          let e = one-plan (tasksOfTable bytes) (coresOfTable bytes) s t (g .plan-is) (h .plan-is) in (
+            g .answer ∙ ap₂ plan (ap (totalCores (tasksOfTable bytes)) e) (ap (totalCost (tasksOfTable bytes)) e) ∙ sym (h .answer),
             f ∙ sym k,
-            g .modes ∙ ap (λ (m : List ℕ). take.written m out) e ∙ sym (h .modes),
+            g .modes ∙ ap (λ (m : List ℕ). withModes m out) e ∙ sym (h .modes),
           )
       go (inl (s, g, f)) (inr (h, k)) = absurd (h .nothing s (g .plan-is .lawful) (g .plan-is .fits))
       go (inr (g, f)) (inl (t, h, k)) = absurd (g .nothing t (h .plan-is .lawful) (h .plan-is .fits))

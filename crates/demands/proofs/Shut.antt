@@ -17,41 +17,42 @@ use Rattle.table.specs.Order.{headerBlock, headerSaid, tableRows}
 use Rattle.table.specs.Numbers.{numbersIn}
 use Rattle.table.specs.Lawful.{LawfulTask, LawfulFigures, Lawful}
 use Rattle.table.proofs.Limits.{task-lawful, figures-lawful}
-use Rattle.options.specs.Tasks.{tasksOf, tasksAt, coresOfTable}
+use Rattle.options.specs.Tasks.{tasksOf, tasksOfTable, coresOfTable}
 use Rattle.options.proofs.Tables.{tasks-length, task-at, task-length}
 use Rattle.taking.specs.declared.Taken.{Taken}
 use Rattle.taking.specs.Said.{said}
-use Rattle.taking.specs.Take.{written}
-use Rattle.demands.specs.Demand2.{ReadsAs}
+use Rattle.taking.specs.Take.{withModes}
+use Rattle.demands.specs.Demand2.{ReadsAs, Accepted}
 use Rattle.demands.specs.Whole.{PlanGiven, NoPlanFits}
 use Rattle.demands.specs.Demand3.{Asked}
 use Rattle.demands.specs.Examples.{taskWith, sampleTasks, sample}
-use Rattle.demands.specs.ShutOut.{RefusesEverything, ConstantPlan, WritesNothing, FillsAllAtOnce, InventsProgress, InventsCoresOrCost, ShutOut}
+use Rattle.demands.specs.ShutOut.{NoneRefusesEverything, NoneHasAConstantPlan, NoneWritesNothing, NoneFillsAllAtOnce, NoneInventsProgress, NoneInventsCoresOrCost, ShutOut}
 use Rattle.demands.proofs.Demand2.{every-lawful-table-is-accepted, written-and-read-back, a-portion-fills-just-the-cells-it-pays-for, tasks-same, cores-same, tasks-read}
-use Rattle.demands.proofs.Demand3.{asked-lawful, the-plan-is-right}
+use Rattle.demands.proofs.Demand3.{asked-lawful, the-plan-is-right, no-portion-is-refused}
 use Rattle.demands.proofs.Examples.{plan-of-5, plan-of-6}
 
+no-refusal : {s : Said} {u v k at : ℕ} → s ≡ plan u v → s ≢ refused k at
+no-refusal e r = let z : _≡_ {A = ℕ} 6 0 = ap kind (sym e ∙ r) in omega arith
+
 -- ---- a plan that is given
--- where a permitted choice fits
-given : {bytes out : List ℕ} {r : Taken} {out' : List ℕ} → Asked bytes out r out'
-    → (s : List ℕ) → LawfulSelection (tasksAt bytes) s → Fits (tasksAt bytes) (coresOfTable bytes) s → (t : List ℕ) × PlanGiven bytes t out r out'
-given {bytes} {out} {r} {out'} a s l f = go (the-plan-is-right bytes out r out' a .right)
+-- unless nothing fits
+given-unless : {bytes out : List ℕ} {r : Taken} {out' : List ℕ} → Asked bytes out r out' → (NoPlanFits bytes out r out' → ⊥)
+    → (t : List ℕ) × PlanGiven bytes t out r out'
+given-unless {bytes} {out} {r} {out'} a some = go (the-plan-is-right bytes out r out' a .right)
   where
     go : ((t : List ℕ) × PlanGiven bytes t out r out') ⊎ NoPlanFits bytes out r out' → (t : List ℕ) × PlanGiven bytes t out r out'
     go (inl g) = g
-    go (inr n) = absurd (n .nothing s l f)
+    go (inr n) = absurd (some n)
+
+-- where a permitted choice fits
+given : {bytes out : List ℕ} {r : Taken} {out' : List ℕ} → Asked bytes out r out'
+    → (s : List ℕ) → LawfulSelection (tasksOfTable bytes) s → Fits (tasksOfTable bytes) (coresOfTable bytes) s → (t : List ℕ) × PlanGiven bytes t out r out'
+given a s l f = given-unless a (λ n. n .nothing s l f)
 
 -- where a plan is answered
 answered : {bytes out : List ℕ} {r : Taken} {out' : List ℕ} {u v : ℕ} → Asked bytes out r out' → said r ≡ plan u v
     → (t : List ℕ) × PlanGiven bytes t out r out'
-answered {bytes} {out} {r} {out'} a e = go (the-plan-is-right bytes out r out' a .right)
-  where
-    go : ((t : List ℕ) × PlanGiven bytes t out r out') ⊎ NoPlanFits bytes out r out' → (t : List ℕ) × PlanGiven bytes t out r out'
-    go (inl g) = g
-    go (inr n) = let z : _≡_ {A = ℕ} 0 6 = ap kind (sym (n .answer) ∙ e) in absurd (omega arith)
-
-no-refusal : {s : Said} {u v k at : ℕ} → s ≡ plan u v → s ≢ refused k at
-no-refusal e r = let z : _≡_ {A = ℕ} 6 0 = ap kind (sym e ∙ r) in omega arith
+answered a e = given-unless a (λ n. no-refusal e (n .answer))
 
 -- its modes are one per task, and they are what is written
 modes-many : (ts : List Task) (s : List ℕ) → LawfulSelection ts s → length s ≡ length ts
@@ -62,49 +63,45 @@ modes-many (t ∷ ts) (j ∷ s) l = ap suc (modes-many ts s (l .2))
 
 modes-written : (bytes s out : List ℕ) (r : Taken) (out' : List ℕ) → PlanGiven bytes s out r out' → take (numbersIn bytes .tasks) out' ≡ s
 modes-written bytes s out r out' g =
-    let n : numbersIn bytes .tasks ≡ length s = sym (modes-many (tasksAt bytes) s (g .plan-is .lawful) ∙ tasks-length (numbersIn bytes)) in
+    let n : numbersIn bytes .tasks ≡ length s = sym (modes-many (tasksOfTable bytes) s (g .plan-is .lawful) ∙ tasks-length (numbersIn bytes)) in
     rw (g .modes, n) (take-append-seam s (drop (length s) out))
 
 -- ---- each program
-refuses-everything : RefusesEverything
-refuses-everything = (
-  λ t bytes l w k at r.
-      let e = written-and-read-back t bytes l w .front in
-      let z : _≡_ {A = ℕ} 1 0 = ap kind (sym e ∙ r) in
-      omega arith,
-  λ bytes out r out' a s l f k at. no-refusal (given a s l f .1 .answer),
-)
+none-refuses-everything : NoneRefusesEverything
+none-refuses-everything =
+    (every-lawful-table-is-accepted, no-portion-is-refused, λ bytes out r out' a s l f k at. no-refusal (given a s l f .1 .answer))
 
-writes-nothing : WritesNothing
-writes-nothing bytes out r out' u v a e first same =
+none-writes-nothing : NoneWritesNothing
+none-writes-nothing bytes out r out' u v a e first same =
     let g = answered a e in
     let l = asked-lawful a in
     let some = l .numbers .header .tasks-low in
-    let low : length (getD (tasksAt bytes) 0 []) ≤ 16 =
+    let low : length (getD (tasksOfTable bytes) 0 []) ≤ 16 =
     rw (task-at (numbersIn bytes) 0 some, task-length (numbersIn bytes .common) (numbersIn bytes .task 0)) (l .numbers .task 0 some .modes-high) in
-    go (tasksAt bytes) (g .0) (omega (arith, tasks-length (numbersIn bytes), some)) low (g .1 .plan-is .lawful)
+    go (tasksOfTable bytes) (g .0) (omega (arith, tasks-length (numbersIn bytes), some)) low (g .1 .plan-is .lawful)
     (ap (λ (x : List ℕ). getD x 0 0) (sym (g .1 .modes) ∙ same) ∙ first)
   where
-    go : (ts : List Task) (s : List ℕ) → 1 ≤ length ts → length (getD ts 0 []) ≤ 16 → LawfulSelection ts s → getD (written s out) 0 0 ≡ 255 → ⊥
+    go : (ts : List Task) (s : List ℕ) → 1 ≤ length ts → length (getD ts 0 []) ≤ 16 → LawfulSelection ts s → getD (withModes s out) 0 0 ≡ 255 → ⊥
     go [] s many low l e = omega arith
     go (t ∷ ts) [] many low l e = l
     go (t ∷ ts) (j ∷ s) many low l e = omega (arith, l .0)
 
-fills-all-at-once : FillsAllAtOnce
-fills-all-at-once bytes before p b after q s c past other same =
+none-fills-all-at-once : NoneFillsAllAtOnce
+none-fills-all-at-once bytes before p b after q s c past other same =
     other (sym (a-portion-fills-just-the-cells-it-pays-for bytes before p b after q s .others c (inr past)) ∙ same)
 
-invents-progress : InventsProgress
-invents-progress bytes before p b after q s = a-portion-fills-just-the-cells-it-pays-for bytes before p b after q s .progress
+none-invents-progress : NoneInventsProgress
+none-invents-progress bytes before p b after q s =
+    (a-portion-fills-just-the-cells-it-pays-for bytes before p b after q s .progress, s .allowed .counts q (s .gave))
 
-invents-cores-or-cost : InventsCoresOrCost
-invents-cores-or-cost bytes out r out' u v a e =
+none-invents-cores-or-cost : NoneInventsCoresOrCost
+none-invents-cores-or-cost bytes out r out' u v a e =
     let g = answered a e in
-    let same : plan u v ≡ plan (totalCores (tasksAt bytes) (g .0)) (totalCost (tasksAt bytes) (g .0)) = sym e ∙ g .1 .answer in
-    let cores : u ≡ totalCores (tasksAt bytes) (g .0) = cc in
-    let cost : v ≡ totalCost (tasksAt bytes) (g .0) = cc in
+    let same : plan u v ≡ plan (totalCores (tasksOfTable bytes) (g .0)) (totalCost (tasksOfTable bytes) (g .0)) = sym e ∙ g .1 .answer in
+    let cores : u ≡ totalCores (tasksOfTable bytes) (g .0) = cc in
+    let cost : v ≡ totalCost (tasksOfTable bytes) (g .0) = cc in
     let modes = modes-written bytes (g .0) out r out' (g .1) in
-    (cores ∙ ap (totalCores (tasksAt bytes)) (sym modes), cost ∙ ap (totalCost (tasksAt bytes)) (sym modes))
+    (cores ∙ ap (totalCores (tasksOfTable bytes)) (sym modes), cost ∙ ap (totalCost (tasksOfTable bytes)) (sym modes))
 
 -- ---- the sample with 5 cores and with 6: modes 1 0 and 0 0
 sample-lawful : (m : ℕ) → 1 ≤ m → m ≤ 64 → Lawful (sample m)
@@ -141,6 +138,9 @@ module _ (m : ℕ) (low : 1 ≤ m) (high : m ≤ 64) where
   table-reads : ReadsAs Table (sample m)
   table-reads = written-and-read-back (sample m) Table (sample-lawful m low high) (every-lawful-table-is-accepted (sample m) (sample-lawful m low high) .2)
 
+  accepted : Accepted Table
+  accepted = (sample m .tasks, sample m .cores, sample m .common, table-reads .front)
+
   none : NoneGiven (tableRows Table)
   none = first-none (tableRows Table) (headerSaid (headerBlock Table)) (λ z. omega (arith, z)) (sym (table-reads .front))
 
@@ -152,23 +152,27 @@ module _ (m : ℕ) (low : 1 ≤ m) (high : m ≤ 64) where
   unfolding sample
   cores-are = cores-same Table table-bytes none (sample m) table-reads
 
-  tasks-are : tasksAt Table ≡ tasksOf (sample m)
+  tasks-are : tasksOfTable Table ≡ tasksOf (sample m)
   tasks-are = tasks-read Table table-bytes none (sample m) table-reads
 
   -- the modes written of it are its plan's
   wrote : (s : List ℕ) → IsPlan (tasksOf (sample m)) m s → (out : List ℕ) (r : Taken) (out' : List ℕ) → Asked Table out r out'
       → take (numbersIn Table .tasks) out' ≡ s
   wrote s is out r out' a =
-      let own : IsPlan (tasksAt Table) (coresOfTable Table) s = subst₂ (λ (ts : List Task) (k : ℕ). IsPlan ts k s) (sym tasks-are) (sym cores-are) is in
+      let own : IsPlan (tasksOfTable Table) (coresOfTable Table) s = subst₂ (λ (ts : List Task) (k : ℕ). IsPlan ts k s) (sym tasks-are) (sym cores-are) is in
       let g = given a s (own .lawful) (own .fits) in
-      modes-written Table (g .0) out r out' (g .1) ∙ one-plan (tasksAt Table) (coresOfTable Table) (g .0) s (g .1 .plan-is) own
+      modes-written Table (g .0) out r out' (g .1) ∙ one-plan (tasksOfTable Table) (coresOfTable Table) (g .0) s (g .1 .plan-is) own
 
-constant-plan : ConstantPlan
-constant-plan =
+none-has-a-constant-plan : NoneHasAConstantPlan
+none-has-a-constant-plan =
     let a = Table 5 (omega arith) (omega arith) in
     let b = Table 6 (omega arith) (omega arith) in (
       a,
       b,
+      table-bytes 5 (omega arith) (omega arith),
+      table-bytes 6 (omega arith) (omega arith),
+      accepted 5 (omega arith) (omega arith),
+      accepted 6 (omega arith) (omega arith),
       two 5 (omega arith) (omega arith) ∙ sym (two 6 (omega arith) (omega arith)),
       λ out out₂ r r₂ out' out₂' x y same.
           let e = sym (wrote 5 (omega arith) (omega arith) (1 ∷ 0 ∷ []) plan-of-5 out r out' x) ∙ same ∙ wrote 6 (omega arith) (omega arith) (0 ∷ 0 ∷ []) plan-of-6 out₂ r₂ out₂' y in
@@ -179,10 +183,10 @@ constant-plan =
 pub shut-out : ShutOut
 shut-out =
     record {
-      refuses-everything = refuses-everything;
-      constant-plan = constant-plan;
-      writes-nothing = writes-nothing;
-      fills-all-at-once = fills-all-at-once;
-      invents-progress = invents-progress;
-      invents-cores-or-cost = invents-cores-or-cost;
+      none-refuses-everything = none-refuses-everything;
+      none-has-a-constant-plan = none-has-a-constant-plan;
+      none-writes-nothing = none-writes-nothing;
+      none-fills-all-at-once = none-fills-all-at-once;
+      none-invents-progress = none-invents-progress;
+      none-invents-cores-or-cost = none-invents-cores-or-cost;
     }

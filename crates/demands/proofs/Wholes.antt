@@ -21,7 +21,7 @@ use Rattle.table.specs.Order.{tableRows}
 use Rattle.table.specs.Numbers.{numbersIn}
 use Rattle.table.specs.Lawful.{LawfulWith}
 use Rattle.table.proofs.Accepted.{lawful}
-use Rattle.options.specs.Tasks.{tasksAt, coresOfTable, cellsOf}
+use Rattle.options.specs.Tasks.{tasksOfTable, coresOfTable, cellsOfTable}
 use Rattle.options.proofs.Tables.{tasks-length, count-is, count-most}
 use Rattle.portions.specs.Portion.{ownRows, portionRows, ruleOf, FilledTo}
 use Rattle.taking.specs.declared.Taken.{Taken}
@@ -38,7 +38,7 @@ module _ (bytes cells out : List ℕ) where
 
   -- the two rows of the lent buffers
   abbrev lent : List Row
-  lent = row 15 0 (ltb (length cells) (cellsOf bytes)) ∷ row 15 0 (ltb (length out) (numbersIn bytes .tasks)) ∷ []
+  lent = row 15 0 (ltb (length cells) (cellsOfTable bytes)) ∷ row 15 0 (ltb (length out) (numbersIn bytes .tasks)) ∷ []
 
   -- what comes of taking: one of the rows is given, or none is and the answer is right
   abbrev pub Decided : Taken → List ℕ → Type 0
@@ -50,50 +50,50 @@ module _ (bytes cells out : List ℕ) where
   pub turned-away : {s : Said} {e : List ℕ} → kind s ≢ 5 → Filled bytes cells s e → ((rest : Said) → s ≡ first Rows rest) × (e ≡ cells)
   unfolding wholeRows portionRows
   turned-away {s} {e} other o =
-      (λ rest. go rest (ltb (length cells) (cellsOf bytes)) refl, unchanged (portionRows bytes (length cells) 0) (filled (cellsOf bytes)) cells _ (λ z. other z) o)
+      (λ rest. go rest (ltb (length cells) (cellsOfTable bytes)) refl, unchanged (portionRows bytes (length cells) 0) (filled (cellsOfTable bytes)) cells _ (λ z. other z) o)
     where
-      never : ltb (cellsOf bytes) 0 ≡ false
-      never = le-ltb (cellsOf bytes) 0 (omega arith)
+      never : ltb (cellsOfTable bytes) 0 ≡ false
+      never = le-ltb (cellsOfTable bytes) 0 (omega arith)
 
-      by-table : s ≡ first (tableRows bytes) (first (ownRows (cellsOf bytes) (length cells) 0) (filled (cellsOf bytes)))
-      by-table = o .says ∙ first-append (tableRows bytes) (ownRows (cellsOf bytes) (length cells) 0) (filled (cellsOf bytes))
+      by-table : s ≡ first (tableRows bytes) (first (ownRows (cellsOfTable bytes) (length cells) 0) (filled (cellsOfTable bytes)))
+      by-table = o .says ∙ first-append (tableRows bytes) (ownRows (cellsOfTable bytes) (length cells) 0) (filled (cellsOfTable bytes))
 
-      go : (rest : Said) (short : Bool) → ltb (length cells) (cellsOf bytes) ≡ short → s ≡ first (tableRows bytes ++ lent) rest
+      go : (rest : Said) (short : Bool) → ltb (length cells) (cellsOfTable bytes) ≡ short → s ≡ first (tableRows bytes ++ lent) rest
       go rest true h =
           by-table
           ∙ ap (first (tableRows bytes)) (_∙_ {b = refused 15 0} (rw h) (sym (rw h)))
           ∙ sym (first-append (tableRows bytes) lent rest)
       go rest false h =
-          let s-table : s ≡ first (tableRows bytes) (filled (cellsOf bytes)) = by-table ∙ ap (first (tableRows bytes)) (rw (h, never)) in
-          stop (tableRows bytes) (filled (cellsOf bytes)) (first lent rest) (λ z. other z) s-table ∙ sym (first-append (tableRows bytes) lent rest)
+          let s-table : s ≡ first (tableRows bytes) (filled (cellsOfTable bytes)) = by-table ∙ ap (first (tableRows bytes)) (rw (h, never)) in
+          stop (tableRows bytes) (filled (cellsOfTable bytes)) (first lent rest) (λ z. other z) s-table ∙ sym (first-append (tableRows bytes) lent rest)
 
   -- ---- every cell is filled
   pub record All (p : ℕ) (e : List ℕ) : Type 0 where
     pub none : NoneGiven (tableRows bytes)
-    pub room : cellsOf bytes ≤ length cells
-    pub progress : p ≡ cellsOf bytes
-    pub holds : e ≡ fill (ruleOf bytes) cells 0 (cellsOf bytes)
+    pub room : cellsOfTable bytes ≤ length cells
+    pub progress : p ≡ cellsOfTable bytes
+    pub holds : e ≡ fill (ruleOf bytes) cells 0 (cellsOfTable bytes)
 
   pub all : (p : ℕ) (e : List ℕ) → Filled bytes cells (filled p) e → All p e
   unfolding portionRows
   all p e o =
-      let g = gone (portionRows bytes (length cells) 0) (filled (cellsOf bytes)) cells _ (λ z. omega (arith, z)) o in
-      let n = none-append (tableRows bytes) (ownRows (cellsOf bytes) (length cells) 0) (g .0) in
-      let told : filled p ≡ filled (cellsOf bytes) = o .says ∙ none-first (portionRows bytes (length cells) 0) (filled (cellsOf bytes)) (g .0) in
-      let is : p ≡ cellsOf bytes = cc in
+      let g = gone (portionRows bytes (length cells) 0) (filled (cellsOfTable bytes)) cells _ (λ z. omega (arith, z)) o in
+      let n = none-append (tableRows bytes) (ownRows (cellsOfTable bytes) (length cells) 0) (g .0) in
+      let told : filled p ≡ filled (cellsOfTable bytes) = o .says ∙ none-first (portionRows bytes (length cells) 0) (filled (cellsOfTable bytes)) (g .0) in
+      let is : p ≡ cellsOfTable bytes = cc in
       record { none = n .0; room = ltb-false _ _ (n .1 .0); progress = is; holds = g .1 }
 
   module _ (b : Bytes bytes) (p : ℕ) (e : List ℕ) (a : All p e) where
     -- each holds its defined value
-    values : FilledTo bytes e (cellsOf bytes)
+    values : FilledTo bytes e (cellsOfTable bytes)
     values c low =
-        let n : cellCount (length (tasksAt bytes)) (coresOfTable bytes) ≡ cellsOf bytes =
+        let n : cellCount (length (tasksOfTable bytes)) (coresOfTable bytes) ≡ cellsOfTable bytes =
         ap (λ (k : ℕ). cellCount k (coresOfTable bytes)) (tasks-length (numbersIn bytes)) in
         ap (λ (x : List ℕ). getD x c 0) (a .holds ∙ ap (fill (ruleOf bytes) cells 0) (sym n))
-        ∙ all-filled (tasksAt bytes) (coresOfTable bytes) cells (omega (arith, n, a .room)) c (omega (arith, n))
+        ∙ all-filled (tasksOfTable bytes) (coresOfTable bytes) cells (omega (arith, n, a .room)) c (omega (arith, n))
 
     long : length e ≡ length cells
-    long = ap length (a .holds) ∙ fill-length (ruleOf bytes) cells 0 (cellsOf bytes)
+    long = ap length (a .holds) ∙ fill-length (ruleOf bytes) cells 0 (cellsOfTable bytes)
 
     -- and there are at most as many as can be kept
     pub few : p ≤ 2145
@@ -115,7 +115,7 @@ module _ (bytes cells out : List ℕ) where
         let l : length (take n cells) ≡ n = length-take-le n cells (omega arith) in
         let front : take p kept ≡ take p cells =
         ap (take p) k ∙ take-append-le p (take n cells) zeros (omega arith) ∙ take-take p n cells (omega arith) in
-        let back : drop p e ≡ drop p cells = ap (drop p) (a .holds) ∙ fill-drop (ruleOf bytes) cells 0 (cellsOf bytes) p (omega arith) in
+        let back : drop p e ≡ drop p cells = ap (drop p) (a .holds) ∙ fill-drop (ruleOf bytes) cells 0 (cellsOfTable bytes) p (omega arith) in
         ap₂ (λ (x y : List ℕ). x ++ y) front back ∙ take-append-drop p cells
 
     -- ---- the plan is taken: 15 for the output, or none of the rows is given and the answer is right
@@ -124,17 +124,17 @@ module _ (bytes cells out : List ℕ) where
     unfolding wholeRows takingRows
     decided r out' took = go (ltb (length out) (numbersIn bytes .tasks)) refl
       where
-        enough : ltb (length cells) (cellsOf bytes) ≡ false
+        enough : ltb (length cells) (cellsOfTable bytes) ≡ false
         enough = le-ltb _ _ (a .room)
 
         own : List Row
-        own = takeRows (cellOf bytes e) (tasksAt bytes) (coresOfTable bytes)
+        own = takeRows (cellOf bytes e) (tasksOfTable bytes) (coresOfTable bytes)
 
         go : (short : Bool) → ltb (length out) (numbersIn bytes .tasks) ≡ short
             → Decided r out'
         go true h =
-            let o = beyond (tableRows bytes) (lentRows (cellsOf bytes) (numbersIn bytes .tasks) (length e) (length out) p ++ own) _ out _ (a .none) took in
-            let same : ltb (length e) (cellsOf bytes) ≡ false = ap (λ (l : ℕ). ltb l (cellsOf bytes)) long ∙ enough in
+            let o = beyond (tableRows bytes) (lentRows (cellsOfTable bytes) (numbersIn bytes .tasks) (length e) (length out) p ++ own) _ out _ (a .none) took in
+            let same : ltb (length e) (cellsOfTable bytes) ≡ false = ap (λ (l : ℕ). ltb l (cellsOfTable bytes)) long ∙ enough in
             let answer : said r ≡ refused 15 0 = o .says ∙ rw (same, h) in
             inl (
               λ rest. answer ∙ sym (first-append (tableRows bytes) lent rest ∙ none-first (tableRows bytes) (first lent rest) (a .none) ∙ rw (enough, h)),
@@ -142,8 +142,8 @@ module _ (bytes cells out : List ℕ) where
               o .leaves ∙ rw (same, h),
             )
         go false h =
-            let room : cellsOf bytes ≤ length e = omega (arith, long, a .room) in
-            let took' : TookPlan bytes e (cellsOf bytes) out r out' = subst (λ (q : ℕ). TookPlan bytes e q out r out') (a .progress) took in
+            let room : cellsOfTable bytes ≤ length e = omega (arith, long, a .room) in
+            let took' : TookPlan bytes e (cellsOfTable bytes) out r out' = subst (λ (q : ℕ). TookPlan bytes e q out r out') (a .progress) took in
             let right = right-answer bytes e (lawful bytes b (a .none)) values (a .none) room out r out' (ltb-false _ _ h) took' .right in
             inr (append-none (tableRows bytes) lent (a .none) (enough, (h, tt)), right)
 
@@ -157,7 +157,7 @@ module _ (bytes cells out : List ℕ) where
         go (inr (none, inl (s, g))) = absurd (omega (arith, sym zero-kind ∙ ap kind (g .answer)))
         go (inr (none, inr g)) = inr record { none = none; ends = inr (g, same) }
 
-    pub planned-whole : kind (said r) ≡ 6 → cells' ≡ fill (ruleOf bytes) cells 0 (cellsOf bytes) → PlannedWhole bytes cells out r cells' out'
+    pub planned-whole : kind (said r) ≡ 6 → cells' ≡ fill (ruleOf bytes) cells 0 (cellsOfTable bytes) → PlannedWhole bytes cells out r cells' out'
     planned-whole six holds = go d
       where
         go : Decided r out' → PlannedWhole bytes cells out r cells' out'

@@ -1,4 +1,4 @@
--- Demand 2: "Every lawful table is accepted. Written and read back it gives the same numbers; read and rewritten, the same bytes. A
+-- Demand 2, after its first sentence, which is the rules for one mode (`model/specs/Rules.antt`): "Every lawful table is accepted. Written and read back it gives the same numbers; read and rewritten, the same bytes. A
 -- portion fills just the cells it pays for."
 use Prim.Native.Nat.{ℕ, _+_, _*_, _≤_, _<_}
 use mathlib.Core.Path.{_≡_}
@@ -13,7 +13,7 @@ use Rattle.table.specs.Lawful.{Lawful}
 use Rattle.writer.specs.declared.Written.the-variants.{Done}
 use Rattle.writer.specs.Order.{WroteHeader, WroteTask}
 use Rattle.model.specs.Workspace.{advance}
-use Rattle.options.specs.Tasks.{cellsOf}
+use Rattle.options.specs.Tasks.{cellsOfTable}
 use Rattle.portions.specs.Portion.{ruleOf}
 use Rattle.portions.specs.Runs.{Step}
 
@@ -66,7 +66,7 @@ ReadAndRewritten =
 -- a portion fills just the cells it pays for: from progress p at most b of them, each as the rule has it, and every other cell keeps its
 -- value
 pub record FillsJust (bytes before : List ℕ) (p b : ℕ) (after : List ℕ) (q : ℕ) : Type 0 where
-  pub progress : q ≡ advance (cellsOf bytes) p b
+  pub progress : q ≡ advance (cellsOfTable bytes) p b
   pub paid : q ≤ p + b
   pub as-many : length after ≡ length before
   pub filled-by-rule : (c : ℕ) → p ≤ c → c < q → getD after c 0 ≡ ruleOf bytes after c
@@ -75,3 +75,9 @@ pub record FillsJust (bytes before : List ℕ) (p b : ℕ) (after : List ℕ) (q
 abbrev pub APortionFillsJustTheCellsItPaysFor : Type 0
 APortionFillsJustTheCellsItPaysFor =
     (bytes before : List ℕ) (p b : ℕ) (after : List ℕ) (q : ℕ) → Step bytes before p b after q → FillsJust bytes before p b after q
+
+pub record Demand2 : Type 0 where
+  pub accepted : EveryLawfulTableIsAccepted
+  pub read-back : WrittenAndReadBack
+  pub rewritten : ReadAndRewritten
+  pub portion : APortionFillsJustTheCellsItPaysFor

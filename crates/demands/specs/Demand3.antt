@@ -11,7 +11,7 @@ use Rattle.answer.specs.Said.{refused, filled}
 use Rattle.model.specs.Plan.{NothingFits}
 use Rattle.block.specs.Bytes.{Bytes}
 use Rattle.table.specs.Numbers.{numbersIn}
-use Rattle.options.specs.Tasks.{tasksAt, coresOfTable, cellsOf}
+use Rattle.options.specs.Tasks.{tasksOfTable, coresOfTable, cellsOfTable}
 use Rattle.portions.specs.declared.Filling.{Filling}
 use Rattle.portions.specs.Said as portions
 use Rattle.portions.specs.Portion.{Portioned}
@@ -25,12 +25,12 @@ use Rattle.demands.specs.Whole.{PlanGiven, NoPlanFits}
 -- what is answered is the plan with its cores and its cost, or 14; and 14 exactly when no permitted choice fits
 pub record RightAnswer (bytes out : List ℕ) (r : Taken) (out' : List ℕ) : Type 0 where
   pub right : ((s : List ℕ) × PlanGiven bytes s out r out') ⊎ NoPlanFits bytes out r out'
-  pub exactly : (taking.said r ≡ refused 14 0) ↔ NothingFits (tasksAt bytes) (coresOfTable bytes)
+  pub exactly : (taking.said r ≡ refused 14 0) ↔ NothingFits (tasksOfTable bytes) (coresOfTable bytes)
 
 -- no portion of the budget is refused on the way
 abbrev pub NoPortionIsRefused : Type 0
 NoPortionIsRefused =
-    (bytes cells : List ℕ) → Accepted bytes → cellsOf bytes ≤ length cells
+    (bytes cells : List ℕ) → Accepted bytes → cellsOfTable bytes ≤ length cells
     → (budgets filling : List ℕ) (p : ℕ) → Run bytes budgets cells 0 filling p
     → (b : ℕ) (r : Filling) (after : List ℕ) → Portioned bytes filling p b r after → (q : ℕ) × (portions.said r ≡ filled q)
 
@@ -39,12 +39,16 @@ NoPortionIsRefused =
 pub record Asked (bytes out : List ℕ) (r : Taken) (out' : List ℕ) : Type 0 where
   pub table : Bytes bytes
   pub cells : List ℕ
-  pub workspace : cellsOf bytes ≤ length cells
+  pub workspace : cellsOfTable bytes ≤ length cells
   pub budgets : List ℕ
   pub filling : List ℕ
-  pub portions : Run bytes budgets cells 0 filling (cellsOf bytes)
+  pub portions : Run bytes budgets cells 0 filling (cellsOfTable bytes)
   pub room : numbersIn bytes .tasks ≤ length out
-  pub took : TookPlan bytes filling (cellsOf bytes) out r out'
+  pub took : TookPlan bytes filling (cellsOfTable bytes) out r out'
 
 abbrev pub ThePlanIsRight : Type 0
 ThePlanIsRight = (bytes out : List ℕ) (r : Taken) (out' : List ℕ) → Asked bytes out r out' → RightAnswer bytes out r out'
+
+pub record Demand3 : Type 0 where
+  pub plan : ThePlanIsRight
+  pub portions : NoPortionIsRefused

@@ -3,9 +3,9 @@ use Prim.Native.Nat.{ℕ}
 use mathlib.Core.Path.{_≡_}
 use mathlib.Core.List.{List, [], _∷_}
 use lib.ListN.{getD}
-use Rattle.answer.specs.Said.{Said, refused, needs}
+use Rattle.answer.specs.Said.{Said, refused, needs, plan}
 use Rattle.model.specs.Rules.{coresSaid}
-use Rattle.model.specs.Plan.{IsPlan, NothingFits, totalCost}
+use Rattle.model.specs.Taking.{Right}
 use Rattle.block.specs.Layout.{Figures, listed}
 use Rattle.table.specs.Numbers.{TaskNumbers, Numbers}
 use Rattle.options.specs.Tasks.{tasksOf}
@@ -25,17 +25,15 @@ sampleTasks =
 unfoldable pub sample : ℕ → Numbers
 sample m = record { tasks = 2; cores = m; common = 1000; task = λ i. getD sampleTasks i (taskWith 0 0 0 []) }
 
--- a line: of (C, L, T) the cores or refusal 13; of the sample with m cores the plan's modes and cost, or that nothing fits
+-- a line: of (C, L, T) the cores or refusal 13; of the sample with m cores the answer, and the modes of its plan
 pub data Line : Type 0 where
   cores : ℕ → ℕ → ℕ → Said → Line
-  plan : ℕ → List ℕ → ℕ → Line
-  nothing : ℕ → Line
+  sampleWith : ℕ → Said → List ℕ → Line
 
 -- what a line claims
 abbrev pub Holds : Line → Type 0
 Holds (cores C L T answer) = coresSaid C L T ≡ answer
-Holds (plan m modes cost) = IsPlan (tasksOf (sample m)) m modes × (totalCost (tasksOf (sample m)) modes ≡ cost)
-Holds (nothing m) = NothingFits (tasksOf (sample m)) m
+Holds (sampleWith m answer modes) = Right (tasksOf (sample m)) m answer modes
 
 unfoldable pub listing : List Line
 listing =
@@ -48,10 +46,10 @@ listing =
     ∷ cores 6 5 6 (needs 1)
     ∷ cores 7 5 6 (needs 2)
     ∷ cores 7 6 6 (refused 13 0)
-    ∷ nothing 2
-    ∷ plan 3 (1 ∷ 1 ∷ []) 4510800000
-    ∷ plan 5 (1 ∷ 0 ∷ []) 2041200000
-    ∷ plan 6 (0 ∷ 0 ∷ []) 0
+    ∷ sampleWith 2 (refused 14 0) []
+    ∷ sampleWith 3 (plan 3 4510800000) (1 ∷ 1 ∷ [])
+    ∷ sampleWith 5 (plan 5 2041200000) (1 ∷ 0 ∷ [])
+    ∷ sampleWith 6 (plan 6 0) (0 ∷ 0 ∷ [])
     ∷ []
 
 -- the claim: every line holds

@@ -1,4 +1,5 @@
 pub mod Demand2
+pub mod Refusals
 pub mod Whole
 pub mod Demand1
 pub mod Demand3

@@ -5,34 +5,31 @@ use mathlib.Core.Logic.{_⊎_}
 use mathlib.Core.List.{List, [], _∷_, _++_}
 use lib.Dec.{ltb}
 use lib.ListN.{length}
-use Rattle.answer.specs.declared.Refusal.{Refusal}
 use Rattle.answer.specs.Said.{Said, refused, plan}
 use Rattle.answer.specs.Order.{Row, row, first, NoneGiven}
 use Rattle.model.specs.Plan.{IsPlan, NothingFits, totalCores, totalCost}
 use Rattle.model.specs.Workspace.{fill}
 use Rattle.table.specs.Order.{tableRows}
 use Rattle.table.specs.Numbers.{numbersIn}
-use Rattle.options.specs.Tasks.{tasksAt, coresOfTable, cellsOf}
+use Rattle.options.specs.Tasks.{tasksOfTable, coresOfTable, cellsOfTable}
 use Rattle.portions.specs.Portion.{ruleOf}
-use Rattle.portions.specs.declared.Filling.{Filling}
-use Rattle.portions.specs.declared.Filling.the-variants as filling
 use Rattle.taking.specs.declared.Taken.{Taken}
 use Rattle.taking.specs.Said.{said}
-use Rattle.taking.specs.Take.{written}
+use Rattle.taking.specs.Take.{withModes}
 
 -- the table's refusals, then 15: the workspace, then the output, is too short
 unfoldable pub wholeRows : List ℕ → ℕ → ℕ → List Row
-wholeRows bytes cells out = tableRows bytes ++ row 15 0 (ltb cells (cellsOf bytes)) ∷ row 15 0 (ltb out (numbersIn bytes .tasks)) ∷ []
+wholeRows bytes cells out = tableRows bytes ++ row 15 0 (ltb cells (cellsOfTable bytes)) ∷ row 15 0 (ltb out (numbersIn bytes .tasks)) ∷ []
 
 -- the plan s of the table: it is answered with its cores and its cost, and its modes are written, one byte per task
 pub record PlanGiven (bytes : List ℕ) (s : List ℕ) (out : List ℕ) (r : Taken) (out' : List ℕ) : Type 0 where
-  pub plan-is : IsPlan (tasksAt bytes) (coresOfTable bytes) s
-  pub answer : said r ≡ plan (totalCores (tasksAt bytes) s) (totalCost (tasksAt bytes) s)
-  pub modes : out' ≡ written s out
+  pub plan-is : IsPlan (tasksOfTable bytes) (coresOfTable bytes) s
+  pub answer : said r ≡ plan (totalCores (tasksOfTable bytes) s) (totalCost (tasksOfTable bytes) s)
+  pub modes : out' ≡ withModes s out
 
 -- no permitted choice fits: 14
 pub record NoPlanFits (bytes : List ℕ) (out : List ℕ) (r : Taken) (out' : List ℕ) : Type 0 where
-  pub nothing : NothingFits (tasksAt bytes) (coresOfTable bytes)
+  pub nothing : NothingFits (tasksOfTable bytes) (coresOfTable bytes)
   pub answer : said r ≡ refused 14 0
   pub kept : out' ≡ out
 
@@ -45,7 +42,7 @@ pub record RefusedFirst (bytes cells out : List ℕ) (r : Taken) (cells' out' : 
 -- none is: every cell is filled and the plan given, or nothing fits and the workspace is as it was
 abbrev pub Ends : List ℕ → List ℕ → List ℕ → Taken → List ℕ → List ℕ → Type 0
 Ends bytes cells out r cells' out' =
-    ((s : List ℕ) × PlanGiven bytes s out r out' × (cells' ≡ fill (ruleOf bytes) cells 0 (cellsOf bytes)))
+    ((s : List ℕ) × PlanGiven bytes s out r out' × (cells' ≡ fill (ruleOf bytes) cells 0 (cellsOfTable bytes)))
     ⊎ (NoPlanFits bytes out r out' × (cells' ≡ cells))
 
 pub record Planned (bytes cells out : List ℕ) (r : Taken) (cells' out' : List ℕ) : Type 0 where
@@ -54,8 +51,3 @@ pub record Planned (bytes cells out : List ℕ) (r : Taken) (cells' out' : List 
 
 abbrev pub PlannedWhole : List ℕ → List ℕ → List ℕ → Taken → List ℕ → List ℕ → Type 0
 PlannedWhole bytes cells out r cells' out' = RefusedFirst bytes cells out r cells' out' ⊎ Planned bytes cells out r cells' out'
-
--- the refusal in a portion's answer; zeros where it is none
-abbrev pub refusalOf : Filling → Refusal
-refusalOf (filling.Refused r) = r
-refusalOf (filling.Filled p) = record { number = 0; at = 0 }

@@ -7,10 +7,11 @@ ghost use lib.ListN.{length, take as front, drop};
 ghost use Rattle.answer.specs.Said.{filled};
 ghost use Rattle.answer.specs.Order.{Outcome};
 ghost use Rattle.model.specs.Workspace.{fill};
-ghost use Rattle.options.specs.Tasks.{cellsOf};
+ghost use Rattle.options.specs.Tasks.{cellsOfTable};
 ghost use Rattle.portions.specs.Said.{said};
 ghost use Rattle.portions.specs.Portion.{portionRows, ruleOf};
-ghost use Rattle.demands.specs.Whole.{refusalOf, PlannedWhole};
+ghost use Rattle.demands.specs.Refusals.{refusalIn};
+ghost use Rattle.demands.specs.Whole.{PlannedWhole};
 use answer::Refusal;
 use portions::Filling;
 use portions::portion;
@@ -22,7 +23,7 @@ const MOST: usize = 2145;
 
 // The refusal in a portion's answer, for a caller that answers in another kind; a new progress has none, and gives zeros.
 fn refusal_in(got: Filling) -> Refusal
-    ensures { λ r. ⌜ r ≡ refusalOf got ⌝ }
+    ensures { λ r. ⌜ r ≡ refusalIn got ⌝ }
 {
     match got {
         Filling::Refused(refusal) => refusal,
@@ -51,7 +52,7 @@ fn lesser(a: usize, b: usize) -> usize
 // Portions of a budget from progress 0 until all cells are filled: until one fills none.
 fn fill_all(table: &[u8], cells: &mut [u64], budget: u32) -> Filling
     requires { ⌜ 1 ≤ budget ⌝ }
-    ensures { λ r. ⌜ Outcome (portionRows (now (table .entry)) (length (now (cells .entry))) 0) (filled (cellsOf (now (table .entry)))) (now (cells .entry)) (fill (ruleOf (now (table .entry))) (now (cells .entry)) 0 (cellsOf (now (table .entry)))) (said r) (now (cells .exit)) ⌝ }
+    ensures { λ r. ⌜ Outcome (portionRows (now (table .entry)) (length (now (cells .entry))) 0) (filled (cellsOfTable (now (table .entry)))) (now (cells .entry)) (fill (ruleOf (now (table .entry))) (now (cells .entry)) 0 (cellsOfTable (now (table .entry)))) (said r) (now (cells .exit)) ⌝ }
 {
     let mut progress = 0;
     loop {
@@ -77,7 +78,7 @@ fn at_once(budget: u32) -> u32
 pub fn plan_whole(table: &[u8], cells: &mut [u64], budget: u32, out: &mut [u8]) -> Taken
     ensures { λ r. ⌜ PlannedWhole (now (table .entry)) (now (cells .entry)) (now (out .entry)) r (now (cells .exit)) (now (out .exit)) ⌝ }
 {
-    let mut kept = [0u64; 2145];
+    let mut kept = [0u64; MOST];
     copy_front(&*cells, lesser(cells.len(), MOST), &mut kept);
     let got = fill_all(table, cells, at_once(budget));
     let Filling::Filled(progress) = got else {

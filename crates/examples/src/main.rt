@@ -1,4 +1,5 @@
-// Runs the document's examples that are not starred, through the planner's own calls, and prints what each gives.
+// Runs the document's examples through the planner's own calls, those that are not starred among them, and prints what each gives.
+ghost use Prim.Native.Nat.{_≤_};
 use block::get8;
 use block::get32;
 use demands::plan_whole;
@@ -6,6 +7,7 @@ use libc::STDOUT_FILENO;
 use model::Need;
 use model::cores;
 use model::cost;
+use model::demand;
 use portions::Filling;
 use portions::portion;
 use taking::Taken;
@@ -38,10 +40,23 @@ fn show_cores(work: u32, span: u32, period: u32) {
     }
 }
 
-// The cost of a mode by its demand, which is at most 2800 in these examples.
-fn show_cost(elasticity: u8, nominal: u16, demand: u16) {
+// The work done in a common period of 1000.
+fn demand_of(work: u16, period: u16) -> u64
+    ensures { λ r. ⌜ r ≤ 6400000 ⌝ }
+{
+    let found = demand(work as u32, period as u32, 1000);
+    if found <= 6400000 { found } else { 0 }
+}
+
+// The cost of a mode, with H = 1000, by the work and the period of mode 0 and its own.
+fn show_cost(elasticity: u8, nominal: u16, nominal_period: u16, work: u16, period: u16) {
     word(b" ");
-    number(cost(elasticity, nominal as u64, demand as u64));
+    let price = cost(
+        elasticity,
+        demand_of(nominal, nominal_period),
+        demand_of(work, period),
+    );
+    number(price);
 }
 
 // A writer's refusal is no example: it would show.
@@ -69,6 +84,7 @@ fn show_portion(table: &[u8], cells: &mut [u64], progress: u32) -> u32 {
 
 // The plan of a table: cores used, cost, and the first modes of the output.
 fn show_plan(table: &[u8], tasks: usize) {
+    // room for the largest table: 33 rows of 65 cells, 32 tasks
     let mut cells = [0u64; 2145];
     let mut modes = [255u8; 32];
     let taken = plan_whole(table, &mut cells, 4, &mut modes);
@@ -157,6 +173,9 @@ fn one_task() {
     word(b"one task, of cores");
     show_cores(1200, 900, 1000);
     show_cores(1200, 200, 1000);
+    word(b" and costs");
+    show_cost(1, 1200, 1000, 1200, 1000);
+    show_cost(1, 1200, 1000, 1200, 1000);
     word(b":");
     show_plan(&table, 1);
     word(b"\n");
@@ -173,11 +192,11 @@ fn main() {
     show_cores(1400, 200, 1000);
     show_cores(700, 100, 500);
     word(b"\ntheir costs:");
-    show_cost(1, 1800, 1800);
-    show_cost(1, 1800, 900);
-    show_cost(2, 2800, 2800);
-    show_cost(2, 2800, 1400);
-    show_cost(2, 2800, 1400);
+    show_cost(1, 1800, 1000, 1800, 1000);
+    show_cost(1, 1800, 1000, 900, 1000);
+    show_cost(2, 1400, 500, 1400, 500);
+    show_cost(2, 1400, 500, 1400, 1000);
+    show_cost(2, 1400, 500, 700, 500);
     word(b"\n");
     sample();
     one_task();

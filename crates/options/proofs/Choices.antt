@@ -14,7 +14,7 @@ use Rattle.block.specs.Tests.{allows}
 use Rattle.table.specs.Numbers.{TaskNumbers}
 use Rattle.cells.specs.Rows.{held, heldTask, offered}
 use Rattle.options.specs.Tasks.{coresAt, costAt, optionOf, taskOf}
-use Rattle.options.specs.Arrays.{needAt, needsOf, costsOf, InLimits}
+use Rattle.options.specs.Arrays.{needAt, needsOf, costsOf, AllMeet}
 
 -- the mode meets its period
 abbrev pub Meets : TaskNumbers → ℕ → Type 0
@@ -31,7 +31,7 @@ module _ (H : ℕ) (t : TaskNumbers) (j : ℕ) (meeting : Meets t j) (next : ℕ
   by-bit f same true e = rw (e, meeting)
   by-bit f same false e = same as-held (rw e (lt-leb mark c low)) (optionOf H t j) (rw e)
 
-  pub held-offered : offered as-held next c ≡ offered (optionOf H t j) next c
+  held-offered : offered as-held next c ≡ offered (optionOf H t j) next c
   held-offered = by-bit (λ o. offered o next c) (λ o e x g. rw (e, g)) (allows (t .permitted) j) refl
 
   pub held-keeps : (v : ℕ) → keeps next c v as-held ≡ keeps next c v (optionOf H t j)
@@ -55,7 +55,7 @@ least-each H t next c low j zero m = refl
 least-each H t next c low j (suc left) m =
     ap₂ min (held-offered H t j (m j (omega arith)) next c low) (least-each H t next c low (j + 1) left (λ k h. m k (omega arith)))
 
-pub held-least : (H : ℕ) (t : TaskNumbers) (next : ℕ → ℕ) (c : ℕ) → c < mark → InLimits H t
+pub held-least : (H : ℕ) (t : TaskNumbers) (next : ℕ → ℕ) (c : ℕ) → c < mark → AllMeet t
     → least (heldTask (needsOf t) (costsOf H t)) next c ≡ least (taskOf H t) next c
 unfolding taskOf
-held-least H t next c low l = least-each H t next c low 0 (t .modes) (λ k h. l .meeting k (omega arith))
+held-least H t next c low m = least-each H t next c low 0 (t .modes) (λ k h. m k (omega arith))

@@ -5,17 +5,18 @@ use native.Mathlib.Omega.{arith}
 use native.Mathlib.Decide.{decLt}
 use mathlib.Core.Path.{_≡_, ap, _∙_}
 use mathlib.Core.List.{List, []}
-use lib.ListN.{length, take, getD, replicate, List·getD-eq-default, List·getD-append}
+use lib.ListN.{length, take, drop, getD, replicate, List·getD-eq-default, List·getD-append}
 use lib.Seq.{take-append-seam}
 use Rattle.model.specs.Turns.{eachFrom}
 use Rattle.model.specs.Plan.{Task, absent, option, dearest, Priced, Limits}
 use Rattle.model.specs.Workspace.{cellCount}
 use Rattle.model.proofs.Turns.{each-length, each-at}
 use Rattle.model.proofs.Bounds.{demand-within, cost-most}
-use Rattle.table.specs.Numbers.{TaskNumbers, Numbers}
+use Rattle.table.specs.Order.{blockAt, taskBlock}
+use Rattle.table.specs.Numbers.{TaskNumbers, taskNumbersIn, Numbers, numbersIn}
 use Rattle.table.specs.Lawful.{Lawful, LawfulWith}
-use Rattle.options.specs.Tasks.{demandAt, optionOf, taskOf, tasksOf, cellsOf}
-use Rattle.options.specs.Arrays.{sixteen, InLimits}
+use Rattle.options.specs.Tasks.{demandAt, optionOf, taskOf, tasksOf, tasksOfTable, cellsOfTable}
+use Rattle.options.specs.Arrays.{sixteen, InLimits, AllMeet}
 
 -- ---- the tasks of a table, and the modes of a task
 pub tasks-length : (t : Numbers) → length (tasksOf t) ≡ t .tasks
@@ -47,15 +48,17 @@ in-limits t i l h =
       common = l .header .common-high;
       few = l .task i h .modes-high;
       work = λ j below. l .mode i j h below .work-high;
-      meeting = λ j below. l .mode i j h below .meeting;
     }
+
+pub all-meet : (t : Numbers) (i : ℕ) → Lawful t → i < t .tasks → AllMeet (t .task i)
+all-meet t i l h j below = l .mode i j h below .meeting
 
 -- within them a demand is at most 64 times the largest common period
 pub demand-limit : (H : ℕ) (t : TaskNumbers) (j : ℕ) → InLimits H t → j < t .modes → demandAt H t j ≤ 6400000
 demand-limit H t j l h = demand-within (t .figures j .work) (t .figures j .period) H (l .work j h) (l .common)
 
 -- and a mode costs at most `dearest`: nothing past the last mode
-pub cost-limit : (H : ℕ) (t : TaskNumbers) (j : ℕ) → InLimits H t → option (taskOf H t) j .cost ≤ dearest
+cost-limit : (H : ℕ) (t : TaskNumbers) (j : ℕ) → InLimits H t → option (taskOf H t) j .cost ≤ dearest
 cost-limit H t j l = go (decLt j (t .modes))
   where
     go : Dec (j < t .modes) → option (taskOf H t) j .cost ≤ dearest
@@ -82,7 +85,7 @@ limits t l =
 
 -- ---- the cells of its workspace, by the numbers that its header gave
 module _ {bytes : List ℕ} {n m H : ℕ} (w : LawfulWith bytes n m H) where
-  pub count-is : cellsOf bytes ≡ (n + 1) * (m + 1)
+  pub count-is : cellsOfTable bytes ≡ (n + 1) * (m + 1)
   unfolding cellCount
   count-is = rw (w .tasks, w .cores)
 
@@ -94,6 +97,24 @@ module _ {bytes : List ℕ} {n m H : ℕ} (w : LawfulWith bytes n m H) where
 
   pub count-most : (n + 1) * (m + 1) ≤ 2145
   count-most = mul-le-mul {n₂ = 33} {m₂ = 65} (omega (arith, few-tasks)) (omega (arith, few-cores))
+
+  -- and a task's block: its limits, and the task that the planner sees
+  module _ (i : ℕ) (less : i < n) (block : List ℕ) (is : block ≡ take 512 (drop (512 * (i + 1)) bytes)) where
+    own : block ≡ taskBlock bytes i
+    unfolding blockAt
+    own = is
+
+    there : i < numbersIn bytes .tasks
+    there = rw (w .tasks) less
+
+    pub block-limits : InLimits H (taskNumbersIn block)
+    block-limits = rw (own, ← w .common) (in-limits (numbersIn bytes) i (w .table .numbers) there)
+
+    pub block-meets : AllMeet (taskNumbersIn block)
+    block-meets = rw own (all-meet (numbersIn bytes) i (w .table .numbers) there)
+
+    pub block-task : getD (tasksOfTable bytes) i [] ≡ taskOf H (taskNumbersIn block)
+    block-task = rw (own, ← w .common) (task-at (numbersIn bytes) i there)
 
 -- ---- an array of 16: what was written is at the front
 pub sixteen-front : (xs : List ℕ) → length xs ≤ 16 → take (length xs) (sixteen xs) ≡ xs

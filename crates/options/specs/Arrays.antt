@@ -26,10 +26,12 @@ needsOf t = eachFrom (needAt t) 0 (t .modes)
 abbrev pub costsOf : ℕ → TaskNumbers → List ℕ
 costsOf H t = eachFrom (costAt H t) 0 (t .modes)
 
--- what is asked of a task before it is loaded: H is at most 100,000, there are at most 16 modes, work is at most 64 periods, so that no
--- cost overflows, and each mode meets its period
+-- the limits under which no cost overflows: H is at most 100,000, there are at most 16 modes, and work is at most 64 periods
 pub record InLimits (H : ℕ) (t : TaskNumbers) : Type 0 where
   pub common : H ≤ 100000
   pub few : t .modes ≤ 16
   pub work : (j : ℕ) → j < t .modes → t .figures j .work ≤ 64 * t .figures j .period
-  pub meeting : (j : ℕ) → j < t .modes → meets (t .figures j .work) (t .figures j .span) (t .figures j .period) ≡ true
+
+-- each mode meets its period
+abbrev pub AllMeet : TaskNumbers → Type 0
+AllMeet t = (j : ℕ) → j < t .modes → meets (t .figures j .work) (t .figures j .span) (t .figures j .period) ≡ true

@@ -32,11 +32,11 @@ unfoldable pub tasksOf : Numbers → List Task
 tasksOf t = eachFrom (λ i. taskOf (t .common) (t .task i)) 0 (t .tasks)
 
 -- those of a table's bytes, with its cores m and the cells W of its workspace
-abbrev pub tasksAt : List ℕ → List Task
-tasksAt bytes = tasksOf (numbersIn bytes)
+abbrev pub tasksOfTable : List ℕ → List Task
+tasksOfTable bytes = tasksOf (numbersIn bytes)
 
 abbrev pub coresOfTable : List ℕ → ℕ
 coresOfTable bytes = numbersIn bytes .cores
 
-abbrev pub cellsOf : List ℕ → ℕ
-cellsOf bytes = cellCount (numbersIn bytes .tasks) (numbersIn bytes .cores)
+abbrev pub cellsOfTable : List ℕ → ℕ
+cellsOfTable bytes = cellCount (numbersIn bytes .tasks) (numbersIn bytes .cores)

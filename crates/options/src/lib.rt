@@ -1,4 +1,4 @@
-// One task's options, from its block into two plain arrays: the need and the cost of each mode. Above this no byte of a table is known.
+// One task's options, from its block into two plain arrays: the need and the cost of each mode. Above this no byte of a table is read.
 ghost use mathlib.Core.Path.{_≡_};
 ghost use Prim.Native.Nat.{_≤_};
 ghost use Rattle.block.specs.Layout.{modesIn};

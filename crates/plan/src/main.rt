@@ -78,6 +78,7 @@ fn show_plan(table: &[u8], used: u32, cost: u64, modes: &[u8]) {
 }
 
 fn answer(table: &[u8]) {
+    // room for the largest table: 33 rows of 65 cells, 32 tasks
     let mut cells = [0u64; 2145];
     let mut modes = [0u8; 32];
     let taken = plan_whole(table, &mut cells, 0, &mut modes);

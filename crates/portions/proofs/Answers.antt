@@ -1,12 +1,12 @@
 -- `Filling` as an enum of answers: what is said of one is the whole of it. Assumes nothing.
 use Prim.Native.Nat.{ℕ, zero, suc}
-use mathlib.Core.Path.{_≡_, refl, sym, ap, _∙_}
+use mathlib.Core.Path.{_≡_, refl}
 use mathlib.Core.Bool.{cond}
 use lib.Dec.{eqb}
 use denote.Enum.Declared.{tagOf}
 use Rattle.answer.specs.Said.{Said}
 use Rattle.answer.proofs.Rows.{kind, numbers}
-use Rattle.answer.proofs.Elses.{Tells}
+use Rattle.answer.proofs.Elses.{Tells, one-said}
 use Rattle.portions.specs.declared.Filling.{Filling}
 use Rattle.portions.specs.declared.Filling.the-variants.{Refused, Filled}
 use Rattle.portions.specs.Said.{said}
@@ -37,4 +37,4 @@ back (Refused r) = refl
 back (Filled p) = refl
 
 pub one-answer : {s : Said} (x y : Filling) → said x ≡ s → said y ≡ s → x ≡ y
-one-answer x y p q = sym (back x) ∙ ap unsaid (p ∙ sym q) ∙ back y
+one-answer = one-said said unsaid back

@@ -13,7 +13,7 @@ use Rattle.model.specs.Workspace.{cellCount, advance, portion}
 use Rattle.model.proofs.Values.{fill-filled}
 use Rattle.table.specs.Order.{tableRows}
 use Rattle.table.specs.Numbers.{numbersIn}
-use Rattle.options.specs.Tasks.{tasksAt, coresOfTable, cellsOf}
+use Rattle.options.specs.Tasks.{tasksOfTable, coresOfTable, cellsOfTable}
 use Rattle.options.proofs.Tables.{tasks-length}
 use Rattle.portions.specs.declared.Filling.{Filling}
 use Rattle.portions.specs.Said.{said}
@@ -21,39 +21,39 @@ use Rattle.portions.specs.Portion.{ownRows, portionRows, ruleOf, FilledT
 
 module _ (bytes before : List ℕ) (p b : ℕ) where
   abbrev pub rest : Said
-  rest = filled (advance (cellsOf bytes) p b)
+  rest = filled (advance (cellsOfTable bytes) p b)
 
   abbrev pub after : List ℕ
-  after = portion (ruleOf bytes) (cellsOf bytes) before p b
+  after = portion (ruleOf bytes) (cellsOfTable bytes) before p b
 
   abbrev pub Ends : Said → List ℕ → Type 0
   Ends s e = Outcome (portionRows bytes (length before) p) rest before after s e
 
   -- ---- by its tests
   abbrev own : List Row
-  own = ownRows (cellsOf bytes) (length before) p
+  own = ownRows (cellsOfTable bytes) (length before) p
 
   module _ (none : NoneGiven (tableRows bytes)) where
     then-own : {s : Said} {e : List ℕ} → Outcome own rest before after s e → Ends s e
     unfolding portionRows
     then-own o = behind (tableRows bytes) own rest before after none o
 
-    pub short : length before < cellsOf bytes → Ends (refused 15 0) before
+    pub short : length before < cellsOfTable bytes → Ends (refused 15 0) before
     short h = then-own (given [] (row 16 0 _ ∷ []) 15 _ tt (lt-ltb _ _ h) refl)
 
-    module _ (room : cellsOf bytes ≤ length before) where
-      pub above : cellsOf bytes < p → Ends (refused 16 0) before
+    module _ (room : cellsOfTable bytes ≤ length before) where
+      pub above : cellsOfTable bytes < p → Ends (refused 16 0) before
       above h = then-own (given (row 15 0 _ ∷ []) [] 16 _ (le-ltb _ _ room, tt) (lt-ltb _ _ h) refl)
 
-      pub done : p ≤ cellsOf bytes → {s : Said} {e : List ℕ} → s ≡ rest → e ≡ after → Ends s e
+      pub done : p ≤ cellsOfTable bytes → {s : Said} {e : List ℕ} → s ≡ rest → e ≡ after → Ends s e
       done h q l = then-own (goes own rest before after (le-ltb _ _ room, (le-ltb _ _ h, tt)) q l)
 
   -- ---- a new progress
   pub record Went (q : ℕ) (e : List ℕ) : Type 0 where
     pub none : NoneGiven (tableRows bytes)
-    pub room : cellsOf bytes ≤ length before
-    pub within : p ≤ cellsOf bytes
-    pub progress : q ≡ advance (cellsOf bytes) p b
+    pub room : cellsOfTable bytes ≤ length before
+    pub within : p ≤ cellsOfTable bytes
+    pub progress : q ≡ advance (cellsOfTable bytes) p b
     pub cells : e ≡ after
 
   pub went : {s : Said} {e : List ℕ} (q : ℕ) → s ≡ filled q → Ends s e → Went q e
@@ -62,18 +62,18 @@ module _ (bytes before : List ℕ) (p b : ℕ) where
       let five : kind (filled q) ≡ 5 = refl in
       let g = gone (portionRows bytes (length before) p) rest before after (λ z. omega (arith, ap kind same)) o in
       let n = none-append (tableRows bytes) own (g .0) in
-      let told : filled q ≡ filled (advance (cellsOf bytes) p b) =
+      let told : filled q ≡ filled (advance (cellsOfTable bytes) p b) =
       sym same ∙ o .says ∙ none-first (portionRows bytes (length before) p) rest (g .0) in
-      let is : q ≡ advance (cellsOf bytes) p b = cc in
+      let is : q ≡ advance (cellsOfTable bytes) p b = cc in
       record { none = n .0; room = ltb-false _ _ (n .1 .0); within = ltb-false _ _ (n .1 .1 .0); progress = is; cells = g .1 }
 
   -- the cells below it hold their defined values where those below the progress given did
   counted : (q : ℕ) (e : List ℕ) → Went q e → FilledTo bytes before p → FilledTo bytes e q
   counted q e w f c low =
-      let n : cellCount (length (tasksAt bytes)) (coresOfTable bytes) ≡ cellsOf bytes =
+      let n : cellCount (length (tasksOfTable bytes)) (coresOfTable bytes) ≡ cellsOfTable bytes =
       ap (λ (k : ℕ). cellCount k (coresOfTable bytes)) (tasks-length (numbersIn bytes)) in
       ap (λ (x : List ℕ). getD x c 0) (w .cells)
-      ∙ fill-filled (tasksAt bytes) (coresOfTable bytes) before p (advance (cellsOf bytes) p b - p) f
+      ∙ fill-filled (tasksOfTable bytes) (coresOfTable bytes) before p (advance (cellsOfTable bytes) p b - p) f
       (omega (arith, n, w .within, w .progress)) (omega (arith, n, w .room)) c (omega (arith, w .within, w .progress))
 
   pub portioned : (r : Filling) (e : List ℕ) → Ends (said r) e → Portioned bytes before p b r e

@@ -10,7 +10,7 @@ use Rattle.answer.specs.Said.{filled}
 use Rattle.model.specs.Rules.{roundedUp}
 use Rattle.model.specs.Workspace.{fill, advance, progressAfter, portions}
 use Rattle.model.proofs.Fills.{fill-chain}
-use Rattle.options.specs.Tasks.{cellsOf}
+use Rattle.options.specs.Tasks.{cellsOfTable}
 use Rattle.portions.specs.declared.Filling.the-variants.{Filled}
 use Rattle.portions.specs.Portion.{ruleOf}
 use Rattle.portions.specs.Runs.{Step, Run, TwoAreOne, ReachedInTime}
@@ -20,7 +20,7 @@ use Rattle.portions.proofs.Ends.{Went, went, done, portioned}
 pub step-went : {bytes before after : List ℕ} {p b q : ℕ} → Step bytes before p b after q → Went bytes before p b q after
 step-went {bytes} {before} {after} {p} {b} {q} s = went bytes before p b q (s .gave) (s .allowed .outcome)
 
-pub went-step : {bytes before after : List ℕ} {p b q : ℕ} → Went bytes before p b q after → Step bytes before p b after q
+went-step : {bytes before after : List ℕ} {p b q : ℕ} → Went bytes before p b q after → Step bytes before p b after q
 went-step {bytes} {before} {after} {p} {b} {q} w =
     record {
       answer = Filled q;
@@ -35,7 +35,7 @@ two-are-one bytes before mid after p b c q q' s t =
     let P = v .progress in
     let Q = w .progress in
     let I = v .within in
-    let sum : q' ≡ advance (cellsOf bytes) p (b + c) = omega arith in
+    let sum : q' ≡ advance (cellsOfTable bytes) p (b + c) = omega arith in
     let first : mid ≡ fill (ruleOf bytes) before p (q - p) = v .cells ∙ ap (λ (x : ℕ). fill (ruleOf bytes) before p (x - p)) (sym P) in
     let second : after ≡ fill (ruleOf bytes) mid q (q' - q) = w .cells ∙ ap (λ (x : ℕ). fill (ruleOf bytes) mid q (x - q)) (sym Q) in
     went-step
@@ -51,15 +51,15 @@ two-are-one bytes before mid after p b c q q' s t =
 -- ---- a run
 -- it is the model's portions
 pub run-is : (bytes : List ℕ) (bs : List ℕ) (before after : List ℕ) (p q : ℕ) → Run bytes bs before p after q
-    → (after ≡ portions (ruleOf bytes) (cellsOf bytes) before p bs) × (q ≡ progressAfter (cellsOf bytes) p bs)
+    → (after ≡ portions (ruleOf bytes) (cellsOfTable bytes) before p bs) × (q ≡ progressAfter (cellsOfTable bytes) p bs)
 unfolding portions progressAfter
 run-is bytes [] before after p q (same, is) = (sym same, sym is)
 run-is bytes (b ∷ bs) before after p q (mid, between, s, run) =
     let w = step-went s in
     let r = run-is bytes bs mid after between q run in
     let P = w .progress in (
-      r .0 ∙ ap₂ (λ (x : List ℕ) (y : ℕ). portions (ruleOf bytes) (cellsOf bytes) x y bs) (w .cells) P,
-      r .1 ∙ ap (λ (y : ℕ). progressAfter (cellsOf bytes) y bs) P,
+      r .0 ∙ ap₂ (λ (x : List ℕ) (y : ℕ). portions (ruleOf bytes) (cellsOfTable bytes) x y bs) (w .cells) P,
+      r .1 ∙ ap (λ (y : ℕ). progressAfter (cellsOfTable bytes) y bs) P,
     )
 
 -- k portions of the same budget
@@ -78,7 +78,7 @@ in-time W b k pos =
 
 pub reached-in-time : ReachedInTime
 reached-in-time bytes before after b k q pos run =
-    let W : ℕ = cellsOf bytes in
+    let W : ℕ = cellsOfTable bytes in
     let e : q ≡ min (k * b) W = run-is bytes (replicate k b) before after 0 q run .1 ∙ progress-each W 0 b k (omega arith) ∙ omega arith in
     let i = in-time W b k pos in
     (λ same. i .0 (sym e ∙ same), λ few. e ∙ i .1 few)

@@ -10,14 +10,14 @@ use Rattle.model.proofs.Fills.{fill-same}
 use Rattle.cells.specs.Rows.{heldTask, rowFrom, taskRow}
 use Rattle.table.specs.Numbers.{TaskNumbers}
 use Rattle.options.specs.Tasks.{costAt, taskOf}
-use Rattle.options.specs.Arrays.{needAt, sixteen, needsOf, costsOf, InLimits}
+use Rattle.options.specs.Arrays.{needAt, sixteen, needsOf, costsOf, InLimits, AllMeet}
 use Rattle.options.proofs.Tables.{sixteen-front}
 use Rattle.options.proofs.Choices.{held-least}
 
-module _ (H : ℕ) (t : TaskNumbers) (l : InLimits H t) where
+module _ (H : ℕ) (t : TaskNumbers) (l : InLimits H t) (m : AllMeet t) where
   -- the part of an array that holds the modes' numbers
   front : (xs ys : List ℕ) (count : ℕ) → count ≡ t .modes → length ys ≡ t .modes → xs ≡ sixteen ys → take (count - 0) (drop 0 xs) ≡ ys
-  front xs ys count n m e =
+  front xs ys count n long e =
       let few = l .few in
       let k : count - 0 ≡ length ys = omega arith in
       rw (e, k) (sixteen-front ys (omega arith))
@@ -33,4 +33,4 @@ module _ (H : ℕ) (t : TaskNumbers) (l : InLimits H t) where
         front cost (costsOf H t) count n (each-length (costAt H t) 0 (t .modes)) b,
       )
       (fill-same (taskRow (heldTask (needsOf t) (costsOf H t)) next start) (taskRow (taskOf H t) next start) ws from (to - from)
-      (λ w q low high. held-least H t (rowFrom w next) (q - start) (omega arith) l))
+      (λ w q low high. held-least H t (rowFrom w next) (q - start) (omega arith) m))

@@ -8,45 +8,31 @@ use Rattle.model.specs.Plan.{Task}
 use Rattle.model.specs.Cells.{least}
 use Rattle.model.specs.Workspace.{cellCount, cellRule, fill}
 use Rattle.cells.specs.Rows.{lastRow, taskRow}
-use Rattle.table.specs.Order.{blockAt, taskBlock}
 use Rattle.table.specs.Numbers.{taskNumbersIn, numbersIn}
 use Rattle.table.specs.Lawful.{LawfulWith}
-use Rattle.options.specs.Tasks.{taskOf, tasksAt}
-use Rattle.options.specs.Arrays.{InLimits}
-use Rattle.options.proofs.Tables.{tasks-length, task-at, in-limits}
+use Rattle.options.specs.Tasks.{taskOf, tasksOfTable}
+use Rattle.options.proofs.Tables.{tasks-length, block-task}
 use Rattle.portions.specs.Portion.{ruleOf}
 use Rattle.portions.proofs.Rows.{stretch-start, row-within, run-last, run-task}
 
 module _ (bytes : List ℕ) (n m H : ℕ) (w : LawfulWith bytes n m H) where
-  many : length (tasksAt bytes) ≡ n
+  many : length (tasksOfTable bytes) ≡ n
   many = tasks-length (numbersIn bytes) ∙ w .tasks
 
-  -- the task of a row, by its block
-  module _ (i : ℕ) (less : i < n) (block : List ℕ) (is : block ≡ take 512 (drop (512 * (i + 1)) bytes)) where
-    own : block ≡ taskBlock bytes i
-    unfolding blockAt
-    own = is
-
-    pub row-limits : InLimits H (taskNumbersIn block)
-    row-limits = rw (own, ← (w .common)) (in-limits (numbersIn bytes) i (w .table .numbers) (rw (w .tasks) less))
-
-    row-task : getD (tasksAt bytes) i [] ≡ taskOf H (taskNumbersIn block)
-    row-task = rw (own, ← (w .common)) (task-at (numbersIn bytes) i (rw (w .tasks) less))
-
   module _ (ws : List ℕ) (from to : ℕ) (inside : from < cellCount n m) (h : from ≤ to) (k : to ≤ from + (m + 1 - from % (m + 1))) where
-    by-cores : fill (cellRule (tasksAt bytes) m) ws from (to - from) ≡ fill (ruleOf bytes) ws from (to - from)
-    by-cores = ap (λ (x : ℕ). fill (cellRule (tasksAt bytes) x) ws from (to - from)) (sym (w .cores))
+    by-cores : fill (cellRule (tasksOfTable bytes) m) ws from (to - from) ≡ fill (ruleOf bytes) ws from (to - from)
+    by-cores = ap (λ (x : ℕ). fill (cellRule (tasksOfTable bytes) x) ws from (to - from)) (sym (w .cores))
 
     pub clear-row : from / (m + 1) ≡ 0 → fill lastRow ws from (to - from) ≡ fill (ruleOf bytes) ws from (to - from)
-    clear-row e = run-last (tasksAt bytes) n m many ws from to h k e ∙ by-cores
+    clear-row e = run-last (tasksOfTable bytes) n m many ws from to h k e ∙ by-cores
 
     pub task-row : (block : List ℕ) → 0 < from / (m + 1) → block ≡ take 512 (drop (512 * (n - from / (m + 1) + 1)) bytes)
         → let start = from - from % (m + 1) in
         fill (taskRow (taskOf H (taskNumbersIn block)) (start - (m + 1)) start) ws from (to - from) ≡ fill (ruleOf bytes) ws from (to - from)
     task-row block pos is =
         let s : ℕ = from / (m + 1) in
-        let least-same : (next : ℕ → ℕ) (c : ℕ) → c ≤ m → least (taskOf H (taskNumbersIn block)) next c ≡ least (getD (tasksAt bytes) (n - s) []) next c =
-        λ next c low. ap (λ (t : Task). least t next c) (sym (row-task (n - s) (omega (arith, row-within n m from inside)) block is)) in
-        run-task (tasksAt bytes) n m many ws from to h k (taskOf H (taskNumbersIn block)) s (from - from % (m + 1)) refl pos
+        let least-same : (next : ℕ → ℕ) (c : ℕ) → c ≤ m → least (taskOf H (taskNumbersIn block)) next c ≡ least (getD (tasksOfTable bytes) (n - s) []) next c =
+        λ next c low. ap (λ (t : Task). least t next c) (sym (block-task w (n - s) (omega (arith, row-within n m from inside)) block is)) in
+        run-task (tasksOfTable bytes) n m many ws from to h k (taskOf H (taskNumbersIn block)) s (from - from % (m + 1)) refl pos
         (row-within n m from inside) (stretch-start (m + 1) from (omega arith)) least-same
         ∙ by-cores

@@ -9,7 +9,7 @@ use Rattle.answer.specs.Said.{filled}
 use Rattle.answer.specs.Order.{Row, row, Outcome}
 use Rattle.model.specs.Workspace.{Rule, cellRule, Filled as HoldsBelow, advance, portion}
 use Rattle.table.specs.Order.{tableRows}
-use Rattle.options.specs.Tasks.{tasksAt, coresOfTable, cellsOf}
+use Rattle.options.specs.Tasks.{tasksOfTable, coresOfTable, cellsOfTable}
 use Rattle.portions.specs.declared.Filling.{Filling}
 use Rattle.portions.specs.Said.{said}
 
@@ -18,20 +18,20 @@ abbrev pub ownRows : ℕ → ℕ → ℕ → List Row
 ownRows W room p = row 15 0 (ltb room W) ∷ row 16 0 (ltb W p) ∷ []
 
 unfoldable pub portionRows : List ℕ → ℕ → ℕ → List Row
-portionRows bytes room p = tableRows bytes ++ ownRows (cellsOf bytes) room p
+portionRows bytes room p = tableRows bytes ++ ownRows (cellsOfTable bytes) room p
 
 -- the rule of the table's cells
 abbrev pub ruleOf : List ℕ → Rule
-ruleOf bytes = cellRule (tasksAt bytes) (coresOfTable bytes)
+ruleOf bytes = cellRule (tasksOfTable bytes) (coresOfTable bytes)
 
 -- the cells below p hold their defined values
 abbrev pub FilledTo : List ℕ → List ℕ → ℕ → Type 0
-FilledTo bytes cells p = HoldsBelow (tasksAt bytes) (coresOfTable bytes) cells p
+FilledTo bytes cells p = HoldsBelow (tasksOfTable bytes) (coresOfTable bytes) cells p
 
 -- the answer and the whole workspace afterwards; and the new progress counts cells that hold their defined values where the progress
 -- given did
 pub record Portioned (bytes before : List ℕ) (p b : ℕ) (r : Filling) (after : List ℕ) : Type 0 where
   pub outcome :
-      Outcome (portionRows bytes (length before) p) (filled (advance (cellsOf bytes) p b)) before
-      (portion (ruleOf bytes) (cellsOf bytes) before p b) (said r) after
+      Outcome (portionRows bytes (length before) p) (filled (advance (cellsOfTable bytes) p b)) before
+      (portion (ruleOf bytes) (cellsOfTable bytes) before p b) (said r) after
   pub counts : (q : ℕ) → said r ≡ filled q → FilledTo bytes before p → FilledTo bytes after q

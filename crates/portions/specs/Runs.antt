@@ -6,7 +6,7 @@ use mathlib.Core.List.{List, [], _∷_}
 use lib.ListN.{replicate}
 use Rattle.answer.specs.Said.{filled}
 use Rattle.model.specs.Rules.{roundedUp}
-use Rattle.options.specs.Tasks.{cellsOf}
+use Rattle.options.specs.Tasks.{cellsOfTable}
 use Rattle.portions.specs.declared.Filling.{Filling}
 use Rattle.portions.specs.Said.{said}
 use Rattle.portions.specs.Portion.{Portioned}
@@ -33,4 +33,4 @@ TwoAreOne =
 abbrev pub ReachedInTime : Type 0
 ReachedInTime =
     (bytes before after : List ℕ) (b k q : ℕ) → 1 ≤ b → Run bytes (replicate k b) before 0 after q
-    → (q ≡ cellsOf bytes) ↔ (roundedUp (cellsOf bytes) b ≤ k)
+    → (q ≡ cellsOfTable bytes) ↔ (roundedUp (cellsOfTable bytes) b ≤ k)

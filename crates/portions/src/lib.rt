@@ -8,7 +8,7 @@ ghost use Rattle.cells.specs.Rows.{taskRow};
 ghost use Rattle.table.specs.Numbers.{taskNumbersIn};
 ghost use Rattle.table.specs.Lawful.{LawfulWith};
 ghost use Rattle.options.specs.Tasks.{taskOf};
-ghost use Rattle.options.specs.Arrays.{InLimits};
+ghost use Rattle.options.specs.Arrays.{InLimits, AllMeet};
 ghost use Rattle.portions.specs.Said.{said};
 ghost use Rattle.portions.specs.Portion.{ruleOf, Portioned};
 use answer::Refusal;
@@ -67,7 +67,7 @@ fn task_run(
     from: usize,
     to: usize,
 )
-    requires { ⌜ InLimits common (taskNumbersIn (now block)) ⌝ }
+    requires { ⌜ InLimits common (taskNumbersIn (now block)) × AllMeet (taskNumbersIn (now block)) ⌝ }
     requires { ⌜ (next ≤ start) × (start ≤ from) × (from ≤ to) × (to ≤ start + 65) × (to ≤ length (now cells)) ⌝ }
     ensures { λ _. ⌜ now (cells .exit) ≡ fill (taskRow (taskOf common (taskNumbersIn (now (block .entry)))) next start) (now (cells .entry)) from (to - from) ⌝ }
 {

@@ -95,7 +95,7 @@ module _ (bytes : List ℕ) where
   )
 
 -- for a caller past its `let .. else` on `check`: the table is lawful, and the header's numbers are the table's
-pub accepted : (bytes : List ℕ) (r : Reading) → Bytes bytes → tag r ≡ 1 → said r ≡ tableSaid bytes
+accepted : (bytes : List ℕ) (r : Reading) → Bytes bytes → tag r ≡ 1 → said r ≡ tableSaid bytes
     → LawfulTable bytes × (said r ≡ headerSaid (headerBlock bytes))
 accepted bytes r b t q =
     let S = headerSaid (headerBlock bytes) in (

@@ -1,7 +1,7 @@
 -- `Reading` as an enum of answers: what is said of one is the whole of it. Assumes nothing.
 use Prim.Native.Nat.{ℕ}
 use native.Mathlib.Omega.{arith}
-use mathlib.Core.Path.{_≡_, refl, sym, ap, _∙_}
+use mathlib.Core.Path.{_≡_, refl, ap, _∙_}
 use mathlib.Core.List.{List, [], _∷_, map}
 use mathlib.Core.Bool.{cond, not}
 use lib.Dec.{T, eqb}
@@ -11,7 +11,7 @@ use denote.Enum.Declared.{tagOf}
 use Rattle.answer.specs.Said.{Said, refused}
 use Rattle.answer.specs.Order.{Row, first, Outcome}
 use Rattle.answer.proofs.Rows.{kind, numbers, kind-refused}
-use Rattle.answer.proofs.Elses.{Tells, stopped, kept}
+use Rattle.answer.proofs.Elses.{Tells, one-said, stopped, kept}
 use Rattle.table.specs.declared.Reading.{Reading}
 use Rattle.table.specs.declared.Reading.the-variants.{Refused, Header, Task, Figures}
 use Rattle.table.specs.Said.{said, refusalOf}
@@ -43,7 +43,7 @@ back (Task E k p) = refl
 back (Figures C L T) = refl
 
 pub one-reading : {s : Said} (x y : Reading) → said x ≡ s → said y ≡ s → x ≡ y
-one-reading x y p q = sym (back x) ∙ ap unsaid (p ∙ sym q) ∙ back y
+one-reading = one-said said unsaid back
 
 -- ---- a reading handed on
 pub no-refusal : (r : Reading) → OneOf (1 ∷ 2 ∷ 3 ∷ []) (tag r) → record { number = 0; at = 0 } ≡ refusalOf r

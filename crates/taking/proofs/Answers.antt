@@ -1,12 +1,12 @@
 -- `Taken` as an enum of answers: what is said of one is the whole of it. Assumes nothing.
 use Prim.Native.Nat.{ℕ, zero, suc}
-use mathlib.Core.Path.{_≡_, refl, sym, ap, _∙_}
+use mathlib.Core.Path.{_≡_, refl}
 use mathlib.Core.Bool.{cond}
 use lib.Dec.{eqb}
 use denote.Enum.Declared.{tagOf}
 use Rattle.answer.specs.Said.{Said}
 use Rattle.answer.proofs.Rows.{kind, numbers}
-use Rattle.answer.proofs.Elses.{Tells}
+use Rattle.answer.proofs.Elses.{Tells, one-said}
 use Rattle.taking.specs.declared.Taken.{Taken}
 use Rattle.taking.specs.declared.Taken.the-variants.{Refused, Plan}
 use Rattle.taking.specs.Said.{said}
@@ -37,4 +37,4 @@ back (Refused r) = refl
 back (Plan u v) = refl
 
 pub one-answer : {s : Said} (x y : Taken) → said x ≡ s → said y ≡ s → x ≡ y
-one-answer x y p q = sym (back x) ∙ ap unsaid (p ∙ sym q) ∙ back y
+one-answer = one-said said unsaid back

@@ -22,10 +22,10 @@ use Rattle.table.specs.Order.{headerBlock, headerSaid, tableRows, tableSaid}
 use Rattle.table.specs.Numbers.{numbersIn}
 use Rattle.table.specs.Lawful.{LawfulWith}
 use Rattle.table.proofs.Readings.{tag, handed-else}
-use Rattle.options.specs.Tasks.{tasksAt, coresOfTable, cellsOf}
+use Rattle.options.specs.Tasks.{tasksOfTable, coresOfTable, cellsOfTable}
 use Rattle.options.proofs.Tables.{count-is}
 use Rattle.taking.specs.declared.Traced.{Traced}
-use Rattle.taking.specs.Take.{cellOf, lentRows, takingRows, written}
+use Rattle.taking.specs.Take.{cellOf, lentRows, takingRows, withModes}
 use Rattle.taking.specs.Traces.{TracedFrom}
 use Rattle.taking.proofs.Tracing.{row-is}
 
@@ -38,17 +38,17 @@ module _ (bytes cells : List ℕ) (p : ℕ) (before : List ℕ) where
 
   -- the rows behind those of the table
   abbrev Lent : List Row
-  Lent = lentRows (cellsOf bytes) (numbersIn bytes .tasks) (length cells) (length before) p
+  Lent = lentRows (cellsOfTable bytes) (numbersIn bytes .tasks) (length cells) (length before) p
 
   abbrev Own : List Row
-  Own = takeRows Rows (tasksAt bytes) M
+  Own = takeRows Rows (tasksOfTable bytes) M
 
   -- what is answered where none is given
   abbrev Rest : Said
   Rest = plan (used (Rows 0) M) (Rows 0 M)
 
   abbrev After : List ℕ
-  After = written (takeModes Rows (tasksAt bytes) M) before
+  After = withModes (takeModes Rows (tasksOfTable bytes) M) before
 
   abbrev pub Ends : Said → List ℕ → Type 0
   Ends s e = Outcome (takingRows bytes cells p (length before)) Rest before After s e
@@ -74,16 +74,16 @@ pub record Called (bytes cells : List ℕ) (p : ℕ) (before : List ℕ) (n m H 
   pub none : NoneGiven (tableRows bytes)
 
 module _ {bytes cells : List ℕ} {p : ℕ} {before : List ℕ} {n m H : ℕ} (c : Called bytes cells p before n m H) where
-  W : cellsOf bytes ≡ (n + 1) * (m + 1)
+  W : cellsOfTable bytes ≡ (n + 1) * (m + 1)
   W = count-is (c .lawful)
 
   pub short-workspace : {s : Said} → s ≡ refused 15 0 → length cells < (n + 1) * (m + 1) → Ends bytes cells p before s before
   short-workspace q h =
-      past-table bytes cells p before (c .none) (given [] _ 15 _ tt (lt-ltb (length cells) (cellsOf bytes) (rw W h)) q)
+      past-table bytes cells p before (c .none) (given [] _ 15 _ tt (lt-ltb (length cells) (cellsOfTable bytes) (rw W h)) q)
 
   module _ (room : (n + 1) * (m + 1) ≤ length cells) where
-    long : ltb (length cells) (cellsOf bytes) ≡ false
-    long = le-ltb (length cells) (cellsOf bytes) (rw W room)
+    long : ltb (length cells) (cellsOfTable bytes) ≡ false
+    long = le-ltb (length cells) (cellsOfTable bytes) (rw W room)
 
     pub short-output : {s : Said} → s ≡ refused 15 0 → length before < n → Ends bytes cells p before s before
     short-output q h =
@@ -97,20 +97,20 @@ module _ {bytes cells : List ℕ} {p : ℕ} {before : List ℕ} {n m H : ℕ} (c
       pub above : {s : Said} → s ≡ refused 16 0 → (n + 1) * (m + 1) < p → Ends bytes cells p before s before
       above q h =
           past-table bytes cells p before (c .none)
-          (given (row 15 0 _ ∷ row 15 0 _ ∷ []) _ 16 _ (long, (wide, tt)) (lt-ltb (cellsOf bytes) p (rw W h)) q)
+          (given (row 15 0 _ ∷ row 15 0 _ ∷ []) _ 16 _ (long, (wide, tt)) (lt-ltb (cellsOfTable bytes) p (rw W h)) q)
 
       module _ (high : p ≤ (n + 1) * (m + 1)) where
-        not-above : ltb (cellsOf bytes) p ≡ false
-        not-above = le-ltb (cellsOf bytes) p (rw W high)
+        not-above : ltb (cellsOfTable bytes) p ≡ false
+        not-above = le-ltb (cellsOfTable bytes) p (rw W high)
 
         pub below : {s : Said} → s ≡ refused 17 0 → p < (n + 1) * (m + 1) → Ends bytes cells p before s before
         below q h =
             past-table bytes cells p before (c .none)
             (given (row 15 0 _ ∷ row 15 0 _ ∷ row 16 0 _ ∷ []) _ 17 _ (long, (wide, (not-above, tt)))
-            (lt-ltb p (cellsOf bytes) (rw W h)) q)
+            (lt-ltb p (cellsOfTable bytes) (rw W h)) q)
 
         lent-none : (n + 1) * (m + 1) ≤ p → NoneGiven (Lent bytes cells p before)
-        lent-none low = (long, (wide, (not-above, (le-ltb p (cellsOf bytes) (rw W low), tt))))
+        lent-none low = (long, (wide, (not-above, (le-ltb p (cellsOfTable bytes) (rw W low), tt))))
 
 -- with a workspace, an output and a progress as they have to be
 pub record Ready (bytes cells : List ℕ) (p : ℕ) (before : List ℕ) (n m H : ℕ) : Type 0 where
@@ -148,8 +148,8 @@ module _ {bytes cells : List ℕ} {p : ℕ} {before : List ℕ} {n m H : ℕ} (c
     column : u ≡ used (cellOf bytes cells 0) (coresOfTable bytes)
     column = u-is ∙ rw (top, L .cores)
 
-    all-is : r .all ≡ allKeep (cellOf bytes cells) 0 (tasksAt bytes) (used (cellOf bytes cells 0) (coresOfTable bytes))
-    all-is = t .all ∙ ap (allKeep (cellOf bytes cells) 0 (tasksAt bytes)) column
+    all-is : r .all ≡ allKeep (cellOf bytes cells) 0 (tasksOfTable bytes) (used (cellOf bytes cells 0) (coresOfTable bytes))
+    all-is = t .all ∙ ap (allKeep (cellOf bytes cells) 0 (tasksOfTable bytes)) column
 
     pub unkept : {s : Said} → s ≡ refused 18 0 → r .all ≡ false → Ends bytes cells p before s before
     unfolding takeRows
@@ -159,7 +159,7 @@ module _ {bytes cells : List ℕ} {p : ℕ} {before : List ℕ} {n m H : ℕ} (c
         past-table bytes cells p before (c .called .none)
         (given (A ++ B) [] 18 _ (append-none A B none-lent (unmarked, tt)) (ap not (sym all-is ∙ f)) q)
 
-    pub planned : {s : Said} {out : List ℕ} → s ≡ plan u cost → out ≡ written (take n (r .modes)) before → r .all ≡ true
+    pub planned : {s : Said} {out : List ℕ} → s ≡ plan u cost → out ≡ withModes (take n (r .modes)) before → r .all ≡ true
         → Ends bytes cells p before s out
     unfolding takeRows
     planned q o f =
@@ -169,4 +169,4 @@ module _ {bytes cells : List ℕ} {p : ℕ} {before : List ℕ} {n m H : ℕ} (c
         (goes (A ++ B) (Rest bytes cells p before) before (After bytes cells p before)
         (append-none A B none-lent (unmarked, (ap not (sym all-is ∙ f), tt)))
         (q ∙ ap₂ plan column last)
-        (o ∙ ap (λ (x : List ℕ). written x before) (t .modes f ∙ ap (trace (cellOf bytes cells) 0 (tasksAt bytes)) column)))
+        (o ∙ ap (λ (x : List ℕ). withModes x before) (t .modes f ∙ ap (trace (cellOf bytes cells) 0 (tasksOfTable bytes)) column)))

@@ -11,14 +11,13 @@ use Rattle.model.specs.Taking.{keeps}
 use Rattle.model.specs.Turns.{eachFrom}
 use Rattle.model.proofs.Turns.{each-length, each-at}
 use Rattle.block.specs.Layout.{modesIn}
-use Rattle.table.specs.Order.{blockAt, taskBlock}
-use Rattle.table.specs.Numbers.{TaskNumbers, taskNumbersIn, numbersIn}
+use Rattle.table.specs.Numbers.{TaskNumbers, taskNumbersIn}
 use Rattle.table.specs.Lawful.{LawfulWith}
 use Rattle.cells.specs.Rows.{held}
-use Rattle.options.specs.Tasks.{costAt, taskOf, tasksAt}
-use Rattle.options.specs.Arrays.{needAt, sixteen, needsOf, costsOf, InLimits}
-use Rattle.options.proofs.Choices.{Meets, held-keeps, held-need}
-use Rattle.options.proofs.Tables.{task-at, task-length, option-at, in-limits, sixteen-at}
+use Rattle.options.specs.Tasks.{costAt, taskOf, tasksOfTable}
+use Rattle.options.specs.Arrays.{needAt, sixteen, needsOf, costsOf, InLimits, AllMeet}
+use Rattle.options.proofs.Choices.{held-keeps, held-need}
+use Rattle.options.proofs.Tables.{task-length, option-at, block-limits, block-meets, block-task, sixteen-at}
 
 -- the mode held in place k of the arrays
 abbrev pub heldAt : List ℕ → List ℕ → ℕ → Option
@@ -36,7 +35,7 @@ in-turn : (f : ℕ → ℕ) (count k : ℕ) → k < count → getD (sixteen (eac
 in-turn f count k h =
     sixteen-at (eachFrom f 0 count) k (rw (each-length f 0 count) h) ∙ each-at f 0 0 count k h ∙ ap f (zero-add k)
 
-module _ (H : ℕ) (t : TaskNumbers) (l : InLimits H t) (meeting : (k : ℕ) → k < t .modes → Meets t k) where
+module _ (H : ℕ) (t : TaskNumbers) (l : InLimits H t) (meeting : AllMeet t) where
   at : (k : ℕ) → k < t .modes → heldAt (sixteen (needsOf t)) (sixteen (costsOf H t)) k ≡ held (needAt t k) (costAt H t k)
   at k h = ap₂ held (in-turn (needAt t) (t .modes) k h) (in-turn (costAt H t) (t .modes) k h)
 
@@ -53,19 +52,9 @@ module _ (H : ℕ) (t : TaskNumbers) (l : InLimits H t) (meeting : (k : ℕ) →
       }
 
 -- task i of a lawful table, from what the loaders give of its block
-module _ {bytes : List ℕ} {n m H : ℕ} (l : LawfulWith bytes n m H) (i : ℕ) (more : i < n) where
-  in-table : i < numbersIn bytes .tasks
-  in-table = rw (l .tasks) more
-
-  pub block-limits : (block : List ℕ) → block ≡ take 512 (drop (512 * (i + 1)) bytes) → InLimits H (taskNumbersIn block)
-  unfolding blockAt
-  block-limits block e = rw (e, ← l .common) (in-limits (numbersIn bytes) i (l .table .numbers) in-table)
-
-  pub block-held : (block : List ℕ) (count : ℕ) (need cost : List ℕ) → block ≡ take 512 (drop (512 * (i + 1)) bytes) → count ≡ modesIn block
-      → need ≡ sixteen (needsOf (taskNumbersIn block)) → cost ≡ sixteen (costsOf H (taskNumbersIn block))
-      → HeldAs (getD (tasksAt bytes) i []) count need cost
-  unfolding blockAt
-  block-held block count need cost e c p q =
-      rw (task-at (numbersIn bytes) i in-table, c, p, q, e, ← l .common)
-      (task-held (numbersIn bytes .common) (taskNumbersIn (taskBlock bytes i)) (in-limits (numbersIn bytes) i (l .table .numbers) in-table)
-      (λ k h. l .table .numbers .mode i k in-table h .meeting))
+pub block-held : {bytes : List ℕ} {n m H : ℕ} → LawfulWith bytes n m H → (i : ℕ) → i < n
+    → (block : List ℕ) (count : ℕ) (need cost : List ℕ) → block ≡ take 512 (drop (512 * (i + 1)) bytes) → count ≡ modesIn block
+    → need ≡ sixteen (needsOf (taskNumbersIn block)) → cost ≡ sixteen (costsOf H (taskNumbersIn block))
+    → HeldAs (getD (tasksOfTable bytes) i []) count need cost
+block-held {H = H} l i more block count need cost e c p q =
+    rw (block-task l i more block e, c, p, q) (task-held H (taskNumbersIn block) (block-limits l i more block e) (block-meets l i more block e))

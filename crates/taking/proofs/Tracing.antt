@@ -14,7 +14,7 @@ use Rattle.model.specs.Workspace.{cellIn, cellCount}
 use Rattle.model.specs.Taking.{keeps, lowest, trace, allKeep}
 use Rattle.table.specs.Numbers.{numbersIn}
 use Rattle.table.specs.Lawful.{LawfulWith}
-use Rattle.options.specs.Tasks.{tasksAt}
+use Rattle.options.specs.Tasks.{tasksOfTable}
 use Rattle.options.proofs.Tables.{tasks-length}
 use Rattle.cells.specs.Rows.{rowFrom}
 use Rattle.taking.specs.Take.{cellOf}
@@ -40,8 +40,8 @@ pub record AtTask (bytes cells : List ℕ) (n m used : ℕ) (modes : List ℕ) (
   pub column-in : column ≤ m
   pub starts : start ≡ (n - i) * (m + 1)
   pub long : length modes ≡ 32
-  pub found : trace (cellOf bytes cells) 0 (tasksAt bytes) used ≡ take i modes ++ trace (cellOf bytes cells) i (drop i (tasksAt bytes)) column
-  pub all : allKeep (cellOf bytes cells) 0 (tasksAt bytes) used ≡ allKeep (cellOf bytes cells) i (drop i (tasksAt bytes)) column
+  pub found : trace (cellOf bytes cells) 0 (tasksOfTable bytes) used ≡ take i modes ++ trace (cellOf bytes cells) i (drop i (tasksOfTable bytes)) column
+  pub all : allKeep (cellOf bytes cells) 0 (tasksOfTable bytes) used ≡ allKeep (cellOf bytes cells) i (drop i (tasksOfTable bytes)) column
 
 module _ {bytes cells : List ℕ} {n m H used : ℕ} {modes : List ℕ} {i column start : ℕ}
     (l : LawfulWith bytes n m H) (a : AtTask bytes cells n m used modes i column start) where
@@ -49,7 +49,7 @@ module _ {bytes cells : List ℕ} {n m H used : ℕ} {modes : List ℕ} {i colum
   Rows = cellOf bytes cells
 
   abbrev Ts : List Task
-  Ts = tasksAt bytes
+  Ts = tasksOfTable bytes
 
   count : length Ts ≡ n
   count = tasks-length (numbersIn bytes) ∙ l .tasks

@@ -9,7 +9,7 @@ use Rattle.model.specs.Workspace.{cellIn}
 use Rattle.model.specs.Taking.{used, takeRows, takeModes}
 use Rattle.table.specs.Order.{tableRows}
 use Rattle.table.specs.Numbers.{numbersIn}
-use Rattle.options.specs.Tasks.{tasksAt, coresOfTable, cellsOf}
+use Rattle.options.specs.Tasks.{tasksOfTable, coresOfTable, cellsOfTable}
 use Rattle.taking.specs.declared.Taken.{Taken}
 use Rattle.taking.specs.Said.{said}
 
@@ -30,12 +30,12 @@ lentRows W n cells out p =
 unfoldable pub takingRows : List ℕ → List ℕ → ℕ → ℕ → List Row
 takingRows bytes cells p out =
     tableRows bytes
-    ++ (lentRows (cellsOf bytes) (numbersIn bytes .tasks) (length cells) out p
-    ++ takeRows (cellOf bytes cells) (tasksAt bytes) (coresOfTable bytes))
+    ++ (lentRows (cellsOfTable bytes) (numbersIn bytes .tasks) (length cells) out p
+    ++ takeRows (cellOf bytes cells) (tasksOfTable bytes) (coresOfTable bytes))
 
 -- the modes, one byte per task, and the rest of the buffer as it was
-abbrev pub written : List ℕ → List ℕ → List ℕ
-written modes out = modes ++ drop (length modes) out
+abbrev pub withModes : List ℕ → List ℕ → List ℕ
+withModes modes out = modes ++ drop (length modes) out
 
 -- the answer, cores used and cost, and the whole output afterwards
 abbrev pub TookPlan : List ℕ → List ℕ → ℕ → List ℕ → Taken → List ℕ → Type 0
@@ -43,4 +43,4 @@ TookPlan bytes cells p before r after =
     let rows = cellOf bytes cells in
     let m = coresOfTable bytes in
     Outcome (takingRows bytes cells p (length before)) (plan (used (rows 0) m) (rows 0 m)) before
-    (written (takeModes rows (tasksAt bytes) m) before) (said r) after
+    (withModes (takeModes rows (tasksOfTable bytes) m) before) (said r) after

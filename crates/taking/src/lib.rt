@@ -8,7 +8,7 @@ ghost use Rattle.model.specs.Taking.{used as usedIn, keeps as keepsCost};
 ghost use Rattle.cells.specs.Rows.{held, rowFrom};
 ghost use Rattle.table.specs.Lawful.{LawfulWith};
 ghost use Rattle.taking.specs.Said.{said};
-ghost use Rattle.taking.specs.Take.{written, TookPlan};
+ghost use Rattle.taking.specs.Take.{withModes, TookPlan};
 ghost use Rattle.taking.specs.Traces.{TracedFrom};
 use answer::Refusal;
 use cells::onward;
@@ -61,7 +61,7 @@ fn keeps(need: u64, cost: u64, cells: &[u64], next: usize, column: usize, cell: 
     onward(need, cost, cells, next, column) == cell
 }
 
-// The modes that the search found, one for each task, or that not all tasks have one.
+// What the search found: whether each task has a mode that keeps its cell's cost, and those modes.
 struct Traced {
     pub all: bool,
     pub modes: [u8; 32],
@@ -109,7 +109,7 @@ fn trace(table: &[u8], common: u32, n: usize, m: usize, cells: &[u64], used: usi
 // Puts one byte for each task at the front of the output; the rest stays.
 fn put(modes: &[u8], n: usize, out: &mut [u8])
     requires { ⌜ (n ≤ length (now modes)) × (n ≤ length (now out)) ⌝ }
-    ensures { λ _. ⌜ now (out .exit) ≡ written (front n (now (modes .entry))) (now (out .entry)) ⌝ }
+    ensures { λ _. ⌜ now (out .exit) ≡ withModes (front n (now (modes .entry))) (now (out .entry)) ⌝ }
 {
     let mut i = 0;
     while i < n {

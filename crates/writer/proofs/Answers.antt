@@ -1,7 +1,7 @@
 -- `Written` as an enum of answers: what is said of one is the whole of it, and one answer after another. Assumes nothing.
 use Prim.Native.Nat.{ℕ, zero, suc}
 use native.Mathlib.Omega.{arith}
-use mathlib.Core.Path.{_≡_, refl, sym, ap, _∙_}
+use mathlib.Core.Path.{_≡_, refl, sym, _∙_}
 use mathlib.Core.List.{List, _++_}
 use mathlib.Core.Bool.{cond}
 use lib.Dec.{eqb}
@@ -9,7 +9,7 @@ use denote.Enum.Declared.{tagOf}
 use Rattle.answer.specs.Said.{Said, written}
 use Rattle.answer.specs.Order.{Row, first}
 use Rattle.answer.proofs.Rows.{kind, numbers, stop, first-none, none-first, first-append}
-use Rattle.answer.proofs.Elses.{Tells}
+use Rattle.answer.proofs.Elses.{Tells, one-said}
 use Rattle.writer.specs.declared.Written.{Written}
 use Rattle.writer.specs.declared.Written.the-variants.{Refused, Done}
 use Rattle.writer.specs.Said.{said, inTurn}
@@ -40,7 +40,7 @@ back (Refused r) = refl
 back Done = refl
 
 pub one-answer : {s : Said} (x y : Written) → said x ≡ s → said y ≡ s → x ≡ y
-one-answer x y p q = sym (back x) ∙ ap unsaid (p ∙ sym q) ∙ back y
+one-answer = one-said said unsaid back
 
 -- one answer's rows, then the next one's
 pub rows-in-turn : (A B : List Row) (a b : Written) → said a ≡ first A written → said b ≡ first B written → said (inTurn a b) ≡ first (A ++ B) written

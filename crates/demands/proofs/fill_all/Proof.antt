@@ -4,7 +4,7 @@ use native.Mathlib.Omega.{arith}
 use mathlib.Core.Path.{_≡_, refl, sym, ap, _∙_}
 use lib.ListN.{length}
 use Rattle.answer.specs.Said.{filled}
-use Rattle.options.specs.Tasks.{cellsOf}
+use Rattle.options.specs.Tasks.{cellsOfTable}
 use Rattle.portions.specs.Said.{said}
 use Rattle.portions.proofs.Answers.{says, told}
 use Rattle.demands.proofs.Fillings.{At, begin, turned-away, turn, further, all}
@@ -16,7 +16,7 @@ abbrev Inv-loop : tie.InvT-loop
 Inv-loop table cells₀ budget progress₀ cells progress = (length cells ≡ length cells₀) × At table cells₀ cells progress
 
 abbrev μ-loop : tie.MeasureT-loop
-μ-loop table cells₀ budget progress₀ cells progress = cellsOf table - progress
+μ-loop table cells₀ budget progress₀ cells progress = cellsOfTable table - progress
 
 loop-holds : tie.Need-loop-holds Inv-loop μ-loop
 loop-holds c = (refl, begin _ _)

@@ -14,7 +14,7 @@ use Rattle.portions.specs.Said as portions
 use Rattle.portions.proofs.Answers as fillings
 use Rattle.taking.specs.Said.{said}
 use Rattle.taking.proofs.Answers as takings
-use Rattle.demands.specs.Whole.{refusalOf}
+use Rattle.demands.specs.Refusals.{refusalIn}
 use Rattle.demands.proofs.Fillings.{Filled}
 use Rattle.demands.proofs.Wholes.{turned-away, All, all, few, inside, put-back, decided, kept-whole, planned-whole}
 use borrow.Author.Needs.{needs}
@@ -49,7 +49,7 @@ same-length : tie.Need-same-length
 same-length c = search needs
 
 -- a refusal of the portions, as taking gives it
-handed : (got : Filling) → fillings.tag got ≡ 0 → refused (refusalOf got .number) (refusalOf got .at) ≡ portions.said got
+handed : (got : Filling) → fillings.tag got ≡ 0 → refused (refusalIn got .number) (refusalIn got .at) ≡ portions.said got
 handed (filling.Refused x) e = refl
 handed (filling.Filled p) e = absurd (omega (arith, e))
 

@@ -14,7 +14,7 @@ use Rattle.table.specs.Order.{headerBlock, headerSaid, tableRows}
 use Rattle.table.specs.Lawful.{LawfulWith}
 use Rattle.table.proofs.Readings.{reading, handed-else}
 use Rattle.table.proofs.Accepted.{accepted-with}
-use Rattle.options.specs.Tasks.{cellsOf}
+use Rattle.options.specs.Tasks.{cellsOfTable}
 use Rattle.options.proofs.Tables.{count-is, count-most}
 use Rattle.portions.specs.Portion.{ownRows, portionRows, ruleOf}
 use Rattle.portions.proofs.Ends.{rest, after, Ends, short, above, done, portioned}
@@ -38,7 +38,7 @@ returns c =
     let s = d .before .before .before in
     let a = s .args in
     let bytes = a .table .now in
-    let own = ownRows (cellsOf bytes) (length (a .cells .now)) (a .progress) in
+    let own = ownRows (cellsOfTable bytes) (length (a .cells .now)) (a .progress) in
     let r = rest bytes (a .cells .now) (a .progress) (a .budget) in
     let e = after bytes (a .cells .now) (a .progress) (a .budget) in
     let o = joined (tableRows bytes) own r (a .cells .now) e
@@ -139,7 +139,7 @@ returns-4 c =
     let e = v .before .before in
     let k = e .before in
     let a = start k .args in
-    let to : v .advance .result ≡ advance (cellsOf (a .table .now)) (a .progress) (a .budget) =
+    let to : v .advance .result ≡ advance (cellsOfTable (a .table .now)) (a .progress) (a .budget) =
     v .advance .ensures ∙ ap (λ (w : ℕ). min (a .progress + a .budget) w) (sym (count-is (lawful k))) in
     portioned (a .table .now) (a .cells .now) (a .progress) (a .budget) _ _
     (done (a .table .now) (a .cells .now) (a .progress) (a .budget) (none k) (omega (arith, count-is (lawful k), e .if1 .left)) (omega (arith, count-is (lawful k), v .before .if2 .left))

@@ -3,8 +3,9 @@ use mathlib.Core.Path.{_∙_}
 use Prim.Native.Nat.{_+_, _-_, _/_, _<_}
 use native.Mathlib.Nat.{mod-le, mod-lt}
 use native.Mathlib.Omega.{arith}
+use Rattle.options.proofs.Tables.{block-limits, block-meets}
 use Rattle.portions.proofs.Rows.{row-within, stretch-before}
-use Rattle.portions.proofs.Runs.{row-limits, clear-row, task-row}
+use Rattle.portions.proofs.Runs.{clear-row, task-row}
 use borrow.Author.Needs.{needs}
 use Rattle.portions.proofs.row_run.Statement.{statement}
 use Rattle.portions.proofs.row_run.Tie as tie
@@ -58,8 +59,11 @@ task-run-requires c κs =
     let s = b .before .before .before .before in
     let a = s .args in
     let pos : 0 < a .m + 1 = omega arith in
+    let w = s .pre .0 in
+    let i = a .n - a .from / (a .m + 1) in
+    let less : i < a .n = omega arith in
     let few = s .pre .0 .table .numbers .header .cores-high in (
-      row-limits (a .table .now) (a .n) (a .m) (a .common) (s .pre .0) (a .n - a .from / (a .m + 1)) (omega arith) (b .task-block .result .now) (b .task-block .ensures .bytes),
+      (block-limits w i less (b .task-block .result .now) (b .task-block .ensures .bytes), block-meets w i less (b .task-block .result .now) (b .task-block .ensures .bytes)),
       omega (arith, mod-lt (a .from) pos, mod-le (a .from) (a .m + 1), few, s .pre .0 .cores, s .pre .1),
     )
 

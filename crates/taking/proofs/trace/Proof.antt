@@ -13,8 +13,9 @@ use Rattle.answer.proofs.Bools.{clash}
 use Rattle.model.specs.Taking.{keeps}
 use Rattle.model.proofs.Least.{keeps-true}
 use Rattle.cells.specs.Rows.{rowFrom}
-use Rattle.options.specs.Tasks.{tasksAt}
-use Rattle.taking.proofs.Helds.{heldAt, HeldAs, block-limits, block-held}
+use Rattle.options.specs.Tasks.{tasksOfTable}
+use Rattle.options.proofs.Tables.{block-limits}
+use Rattle.taking.proofs.Helds.{heldAt, HeldAs, block-held}
 use Rattle.taking.proofs.Tracing.{AtTask, done, all-done, in-ws, next-below, next-in-ws, stuck, step}
 use Rattle.taking.proofs.trace.Statement.{statement}
 use Rattle.taking.proofs.trace.Tie as tie
@@ -114,7 +115,7 @@ module _ (c : tie.After-costs Inv-lowest μ-lowest Inv-tasks μ-tasks) where
   abbrev T : tie.Else1 Inv-lowest μ-lowest Inv-tasks μ-tasks
   T = c .before .before .before .before .before .before
 
-  loaded : HeldAs (getD (tasksAt (S T .args .table .now)) (T .before .tasks .i) []) (c .before .before .modes .result) (c .before .needs .result)
+  loaded : HeldAs (getD (tasksOfTable (S T .args .table .now)) (T .before .tasks .i) []) (c .before .before .modes .result) (c .before .needs .result)
       (c .costs .result)
   loaded =
       block-held (S T .pre .0) (T .before .tasks .i) (more T) _ _ _ _ (c .before .before .before .task-block .ensures .bytes)
