@@ -5,11 +5,12 @@ use native.Mathlib.Omega.{arith}
 use mathlib.Core.Path.{_≡_, refl, sym, ap, ap₂, _∙_}
 use mathlib.Core.Logic.{_⊎_, inl, inr, _≢_}
 use mathlib.Core.List.{List}
-use borrow.Author.Tests.{le-ltb}
-use lib.Dec.{ltb}
+use mathlib.Core.Bool.{Bool, true, false, cond}
+use borrow.Author.Tests.{le-ltb, eqb-false}
+use lib.Dec.{ltb, eqb}
 use lib.ListN.{length}
-use Rattle.answer.specs.Said.{Said, filled}
-use Rattle.answer.specs.Order.{Outcome, NoneGiven, first}
+use Rattle.answer.specs.Said.{filled}
+use Rattle.answer.specs.Order.{NoneGiven, first}
 use Rattle.answer.proofs.Rows.{kind, none-append, append-none, none-first}
 use Rattle.answer.proofs.Outcomes.{stops, goes, unchanged}
 use Rattle.model.specs.Workspace.{fill, advance}
@@ -20,13 +21,9 @@ use Rattle.portions.specs.declared.Filling.{Filling}
 use Rattle.portions.specs.Said.{said}
 use Rattle.portions.specs.Portion.{ownRows, portionRows, ruleOf, Portioned}
 use Rattle.portions.proofs.Ends.{Went, went}
+use Rattle.demands.specs.Portions.{atOnce, AllFilled}
 
 module _ (bytes before : List ℕ) where
-  -- the end: what a portion's rows say, or every cell filled
-  abbrev pub Filled : Said → List ℕ → Type 0
-  Filled s e =
-      Outcome (portionRows bytes (length before) 0) (filled (cellsOfTable bytes)) before (fill (ruleOf bytes) before 0 (cellsOfTable bytes)) s e
-
   -- p cells are filled; past the first portion no row is given
   pub record At (cells : List ℕ) (p : ℕ) : Type 0 where
     pub so-far : cells ≡ fill (ruleOf bytes) before 0 p
@@ -42,11 +39,11 @@ module _ (bytes before : List ℕ) where
 
     module _ {b : ℕ} {r : Filling} {e : List ℕ} (o : Portioned bytes cells p b r e) where
       -- a portion that is no new progress is the first one, and refused
-      pub turned-away : kind (said r) ≢ 5 → Filled (said r) e
+      pub turned-away : kind (said r) ≢ 5 → AllFilled bytes before (said r) e
       unfolding fill portionRows
       turned-away other = go (a .since)
         where
-          go : (p ≡ 0) ⊎ (NoneGiven (portionRows bytes (length before) 0) × (p ≤ cellsOfTable bytes)) → Filled (said r) e
+          go : (p ≡ 0) ⊎ (NoneGiven (portionRows bytes (length before) 0) × (p ≤ cellsOfTable bytes)) → AllFilled bytes before (said r) e
           go (inl zero-yet) =
               let same : cells ≡ before = a .so-far ∙ ap (fill (ruleOf bytes) before 0) zero-yet in
               let kept : e ≡ before = unchanged (portionRows bytes (length cells) p) _ cells _ (λ z. other z) (o .outcome) ∙ same in
@@ -89,8 +86,16 @@ module _ (bytes before : List ℕ) where
         pub further : q ≢ p → (p < q) × (q ≤ cellsOfTable bytes)
         further other = omega (arith, w .within, w .progress)
 
-        pub all : 1 ≤ b → q ≡ p → Filled (filled q) e
+        pub all : 1 ≤ b → q ≡ p → AllFilled bytes before (filled q) e
         all some still =
             let end : q ≡ cellsOfTable bytes = omega (arith, w .within, w .progress) in
             goes (portionRows bytes (length before) 0) (filled (cellsOfTable bytes)) before (fill (ruleOf bytes) before 0 (cellsOfTable bytes)) none
             (ap filled end) (turn .so-far ∙ ap (fill (ruleOf bytes) before 0) end)
+
+-- ---- the budget is at least 1
+pub some-budget : (b : ℕ) → 1 ≤ atOnce b
+some-budget b = go (eqb b 0) refl
+  where
+    go : (t : Bool) → eqb b 0 ≡ t → 1 ≤ cond t 4294967295 b
+    go true e = omega arith
+    go false e = let other = eqb-false b 0 e in omega arith

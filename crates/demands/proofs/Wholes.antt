@@ -28,8 +28,8 @@ use Rattle.taking.specs.declared.Taken.{Taken}
 use Rattle.taking.specs.Said.{said}
 use Rattle.taking.specs.Take.{cellOf, lentRows, takingRows, TookPlan}
 use Rattle.model.specs.Taking.{takeRows}
+use Rattle.demands.specs.Portions.{AllFilled}
 use Rattle.demands.specs.Whole.{wholeRows, PlanGiven, NoPlanFits, PlannedWhole}
-use Rattle.demands.proofs.Fillings.{Filled}
 use Rattle.demands.proofs.Demand3.{right-answer}
 
 module _ (bytes cells out : List ℕ) where
@@ -47,7 +47,7 @@ module _ (bytes cells out : List ℕ) where
       ⊎ (NoneGiven Rows × (((s : List ℕ) × PlanGiven bytes s out r out') ⊎ NoPlanFits bytes out r out'))
 
   -- ---- the portions are refused: by the table's rows, or for the workspace
-  pub turned-away : {s : Said} {e : List ℕ} → kind s ≢ 5 → Filled bytes cells s e → ((rest : Said) → s ≡ first Rows rest) × (e ≡ cells)
+  pub turned-away : {s : Said} {e : List ℕ} → kind s ≢ 5 → AllFilled bytes cells s e → ((rest : Said) → s ≡ first Rows rest) × (e ≡ cells)
   unfolding wholeRows portionRows
   turned-away {s} {e} other o =
       (λ rest. go rest (ltb (length cells) (cellsOfTable bytes)) refl, unchanged (portionRows bytes (length cells) 0) (filled (cellsOfTable bytes)) cells _ (λ z. other z) o)
@@ -74,7 +74,7 @@ module _ (bytes cells out : List ℕ) where
     pub progress : p ≡ cellsOfTable bytes
     pub holds : e ≡ fill (ruleOf bytes) cells 0 (cellsOfTable bytes)
 
-  pub all : (p : ℕ) (e : List ℕ) → Filled bytes cells (filled p) e → All p e
+  pub all : (p : ℕ) (e : List ℕ) → AllFilled bytes cells (filled p) e → All p e
   unfolding portionRows
   all p e o =
       let g = gone (portionRows bytes (length cells) 0) (filled (cellsOfTable bytes)) cells _ (λ z. omega (arith, z)) o in

@@ -1,5 +1,5 @@
--- Demand 2, after its first sentence, which is the rules for one mode (`model/specs/Rules.antt`): "Every lawful table is accepted. Written and read back it gives the same numbers; read and rewritten, the same bytes. A
--- portion fills just the cells it pays for."
+-- Demand 2, after its first sentence, which is the rules for one mode (`model/specs/Rules.antt`): "Every lawful table is accepted.
+-- Written and read back it gives the same numbers; read and rewritten, the same bytes. A portion fills just the cells it pays for."
 use Prim.Native.Nat.{ℕ, _+_, _*_, _≤_, _<_}
 use mathlib.Core.Path.{_≡_}
 use mathlib.Core.Logic.{_⊎_}

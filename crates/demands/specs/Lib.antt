@@ -1,5 +1,5 @@
 pub mod Demand2
-pub mod Refusals
+pub mod Portions
 pub mod Whole
 pub mod Demand1
 pub mod Demand3

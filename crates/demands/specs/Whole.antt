@@ -39,7 +39,7 @@ pub record RefusedFirst (bytes cells out : List ℕ) (r : Taken) (cells' out' : 
   pub cells-kept : cells' ≡ cells
   pub out-kept : out' ≡ out
 
--- none is: every cell is filled and the plan given, or nothing fits and the workspace is as it was
+-- none is given: every cell is filled and the plan given, or nothing fits and the workspace is as it was
 abbrev pub Ends : List ℕ → List ℕ → List ℕ → Taken → List ℕ → List ℕ → Type 0
 Ends bytes cells out r cells' out' =
     ((s : List ℕ) × PlanGiven bytes s out r out' × (cells' ≡ fill (ruleOf bytes) cells 0 (cellsOfTable bytes)))

@@ -4,13 +4,8 @@ ghost use mathlib.Core.Path.{_≡_};
 ghost use mathlib.Core.List.{_++_};
 ghost use Prim.Native.Nat.{_-_, _≤_, min};
 ghost use lib.ListN.{length, take as front, drop};
-ghost use Rattle.answer.specs.Said.{filled};
-ghost use Rattle.answer.specs.Order.{Outcome};
-ghost use Rattle.model.specs.Workspace.{fill};
-ghost use Rattle.options.specs.Tasks.{cellsOfTable};
 ghost use Rattle.portions.specs.Said.{said};
-ghost use Rattle.portions.specs.Portion.{portionRows, ruleOf};
-ghost use Rattle.demands.specs.Refusals.{refusalIn};
+ghost use Rattle.demands.specs.Portions.{atOnce, AllFilled, refusalIn};
 ghost use Rattle.demands.specs.Whole.{PlannedWhole};
 use answer::Refusal;
 use portions::Filling;
@@ -52,7 +47,7 @@ fn lesser(a: usize, b: usize) -> usize
 // Portions of a budget from progress 0 until all cells are filled: until one fills none.
 fn fill_all(table: &[u8], cells: &mut [u64], budget: u32) -> Filling
     requires { ⌜ 1 ≤ budget ⌝ }
-    ensures { λ r. ⌜ Outcome (portionRows (now (table .entry)) (length (now (cells .entry))) 0) (filled (cellsOfTable (now (table .entry)))) (now (cells .entry)) (fill (ruleOf (now (table .entry))) (now (cells .entry)) 0 (cellsOfTable (now (table .entry)))) (said r) (now (cells .exit)) ⌝ }
+    ensures { λ r. ⌜ AllFilled (now (table .entry)) (now (cells .entry)) (said r) (now (cells .exit)) ⌝ }
 {
     let mut progress = 0;
     loop {
@@ -69,7 +64,7 @@ fn fill_all(table: &[u8], cells: &mut [u64], budget: u32) -> Filling
 
 // A budget of 0 counts as all at once.
 fn at_once(budget: u32) -> u32
-    ensures { λ r. ⌜ 1 ≤ r ⌝ }
+    ensures { λ r. ⌜ r ≡ atOnce budget ⌝ }
 {
     if budget == 0 { 4294967295 } else { budget }
 }

@@ -48,8 +48,12 @@ loop-again : tie.Need-loop-again Inv-loop μ-loop
 unfolding taskRow
 loop-again c =
     let l = c .before .before .before .loop in
-    let a = c .before .before .before .before .before .before .before .args in
-    (omega arith, omega arith, simp length-set (l .inv .2), fill-turn (rule (now (a .need)) (now (a .cost)) (a .next) (a .start)) (now (a .cells)) (l .cells) (a .from) (l .p) (c .least .result) (l .inv .0) (l .inv .3) (c .least .ensures))
+    let a = c .before .before .before .before .before .before .before .args in (
+      omega arith,
+      omega arith,
+      simp length-set (l .inv .2),
+      fill-turn (rule (now (a .need)) (now (a .cost)) (a .next) (a .start)) (now (a .cells)) (l .cells) (a .from) (l .p) (c .least .result) (l .inv .0) (l .inv .3) (c .least .ensures),
+    )
 
 same-length : tie.Need-same-length Inv-loop μ-loop
 same-length c = search needs

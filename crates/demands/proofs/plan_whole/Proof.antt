@@ -14,8 +14,8 @@ use Rattle.portions.specs.Said as portions
 use Rattle.portions.proofs.Answers as fillings
 use Rattle.taking.specs.Said.{said}
 use Rattle.taking.proofs.Answers as takings
-use Rattle.demands.specs.Refusals.{refusalIn}
-use Rattle.demands.proofs.Fillings.{Filled}
+use Rattle.demands.specs.Portions.{AllFilled, refusalIn}
+use Rattle.demands.proofs.Fillings.{some-budget}
 use Rattle.demands.proofs.Wholes.{turned-away, All, all, few, inside, put-back, decided, kept-whole, planned-whole}
 use borrow.Author.Needs.{needs}
 use Rattle.demands.proofs.plan_whole.Statement.{statement}
@@ -34,7 +34,9 @@ at-once-requires : tie.Need-at-once-requires
 at-once-requires c κs = search needs
 
 fill-all-requires : tie.Need-fill-all-requires
-fill-all-requires c κs = search needs
+fill-all-requires c κs =
+    let s = c .before .before .before .before .before .before .before .before .before .before in
+    rw (c .at-once .ensures) (some-budget (s .args .budget))
 
 enum-known-got : tie.Need-enum-known-got
 enum-known-got c = search needs
@@ -83,7 +85,7 @@ module _ (g : tie.After-got) where
   filled-all =
       let a = S .args in
       all (a .table .now) (a .cells .now) (a .out .now) P (F .fill-all .last .1 .0)
-      (subst (λ (s : Said). Filled (a .table .now) (a .cells .now) s (F .fill-all .last .1 .0)) (ap portions.said (g .got .given .1)) (F .fill-all .ensures))
+      (subst (λ (s : Said). AllFilled (a .table .now) (a .cells .now) s (F .fill-all .last .1 .0)) (ap portions.said (g .got .given .1)) (F .fill-all .ensures))
 
   abbrev Kept : List ℕ
   Kept = F .before .before .before .before .copy-front .last .1 .1 .0

@@ -1,6 +1,6 @@
 -- `demands::refusal_in` meets its contract. Assumes nothing.
 use mathlib.Core.Path.{sym, ap}
-use Rattle.demands.specs.Refusals.{refusalIn}
+use Rattle.demands.specs.Portions.{refusalIn}
 use borrow.Author.Needs.{needs}
 use Rattle.demands.proofs.refusal_in.Statement.{statement}
 use Rattle.demands.proofs.refusal_in.Tie as tie
