@@ -1,8 +1,10 @@
 -- Laws of `first`. Assumes nothing.
 use Prim.Native.Nat.{ℕ}
-use mathlib.Core.Path.{_≡_, refl, ap}
+use native.Mathlib.Omega.{arith}
+use mathlib.Core.Path.{_≡_, refl, sym, ap, _∙_}
 use mathlib.Core.List.{List, [], _∷_, _++_}
 use mathlib.Core.Bool.{true, false}
+use lib.ListN.{drop}
 use Rattle.answer.specs.Said.{Said, refused, header, task, figures, needs, filled, plan, written}
 use Rattle.answer.specs.Order.{Row, row, first, NoneGiven}
 use Rattle.answer.proofs.Bools.{clash}
@@ -27,6 +29,10 @@ none-first [] s p = refl
 none-first (row n k true ∷ A) s p = clash (p .0)
 none-first (row n k false ∷ A) s p = none-first A s (p .1)
 
+-- the first k rows are not given
+abbrev pub Past : List Row → Said → ℕ → Type 0
+Past rows rest k = first rows rest ≡ first (drop k rows) rest
+
 -- the kind of an answer; a refusal's is 0
 abbrev pub kind : Said → ℕ
 kind (refused n k) = 0
@@ -48,6 +54,10 @@ numbers (needs k) = (k, 0, 0)
 numbers (filled p) = (p, 0, 0)
 numbers (plan u v) = (u, v, 0)
 numbers written = (0, 0, 0)
+
+-- a plan is no refusal
+pub plan-refused : {A : Type 0} {s : Said} {u v k at : ℕ} → s ≡ plan u v → s ≡ refused k at → A
+plan-refused e r = let z : _≡_ {A = ℕ} 6 0 = ap kind (sym e ∙ r) in absurd (omega arith)
 
 -- rows before a refusal give a refusal
 pub kind-refused : (A : List Row) → kind (first A (refused 0 0)) ≡ 0

@@ -1,13 +1,13 @@
 -- The check: one more byte, how large it is, and that it changes when one of its bytes changes and when two unequal ones trade places.
 -- Assumes nothing.
-use Prim.Native.Nat.{ℕ, zero, suc, _+_, _-_, _*_, _≤_, _<_}
-use native.Mathlib.Nat.{add-mul, eq-of-mul-eq-mul-left, eq-or-lt-of-le, le-of-suc-le-suc, mul-le-mul, mul-le-mul-left}
+use Prim.Native.Nat.{ℕ, zero, suc, _+_, _-_, _*_, _≤_, _<_, min}
+use native.Mathlib.Nat.{add-mul, add-suc, add-zero, mul-zero, eq-of-mul-eq-mul-left, eq-or-lt-of-le, le-of-suc-le-suc, mul-le-mul, mul-le-mul-left}
 use native.Mathlib.Numerals.{add-one}
 use native.Mathlib.Omega.{arith}
-use mathlib.Core.Path.{_≡_, refl, ap, subst, _∙_}
+use mathlib.Core.Path.{_≡_, refl, sym, ap, subst, _∙_}
 use mathlib.Core.Logic.{⊎-elim}
 use mathlib.Core.List.{List, _++_}
-use lib.ListN.{length, getD, set, length-set, List·getD-append}
+use lib.ListN.{length, getD, set, length-set, List·getD-append, List·getD-eq-default}
 use lib.Seq.{getD-set-same, getD-set-other}
 use Rattle.block.specs.Bytes.{Bytes, weighed, checkOf}
 
@@ -21,6 +21,18 @@ pub weighed-front : (n : ℕ) (a b : List ℕ) → n ≤ length a → weighed n 
 unfolding weighed
 weighed-front zero a b h = refl
 weighed-front (suc n) a b h = rw (weighed-front n a b (omega arith), List·getD-append a b 0 n (omega arith))
+
+-- past the end there is nothing to weigh
+beyond : (k d : ℕ) (s : List ℕ) → (0 < d → length s ≤ k) → weighed (k + d) s ≡ weighed k s
+unfolding weighed
+beyond k zero s h = rw add-zero
+beyond k (suc d) s h =
+    rw (add-suc, beyond k d s (λ _. h (omega arith)), List·getD-eq-default s 0 {n = k + d} (omega (arith, h (omega arith))), mul-zero, add-zero)
+
+pub weighed-all : (n : ℕ) (s : List ℕ) → weighed (min n (length s)) s ≡ weighed n s
+weighed-all n s =
+    let d : min n (length s) + (n - min n (length s)) ≡ n = omega arith in
+    sym (beyond (min n (length s)) (n - min n (length s)) s (λ h. omega arith)) ∙ ap (λ (k : ℕ). weighed k s) d
 
 -- ---- how large
 pub term-small : (n b : ℕ) → n < 508 → b < 256 → (n + 1) * b ≤ 129540

@@ -1,5 +1,5 @@
 -- The round trip of a block: a block holds these numbers exactly where it is made of them. Assumes nothing.
-use Prim.Native.Nat.{ℕ, zero, suc, _+_, _-_, _*_, _^_, _≤_, _<_}
+use Prim.Native.Nat.{ℕ, zero, suc, _+_, _*_, _^_, _≤_, _<_}
 use native.Mathlib.Omega.{arith}
 use mathlib.Core.Path.{_≡_, refl, ap, sym, _∙_}
 use mathlib.Core.Bool.{Bool, true, false, not, _||_}
@@ -7,8 +7,8 @@ use mathlib.Core.List.{List, [], _∷_}
 use lib.ListN.{length, drop, getD, replicate}
 use borrow.Author.Tests.{not-false}
 use Rattle.answer.proofs.Bools.{or-false}
-use Rattle.block.specs.Bytes.{Bytes, number, laid, checkOf, zeros}
 use Rattle.model.specs.Turns.{eachFrom}
+use Rattle.block.specs.Bytes.{Bytes, number, laid, checkOf, zeros}
 use Rattle.block.specs.Layout.{kindIn, checkIn, editionIn, tasksIn, coresIn, commonIn, headerUnused, elasticityIn, modesIn, permittedIn, taskNumberIn, taskUnused, figuresIn, flat}
 use Rattle.block.specs.Whole.{headerWidths, headerBytes, taskWidths, taskBytes}
 use Rattle.block.proofs.Laid.{Fit, total, length-laid, bytes-laid, fields}
@@ -31,22 +31,22 @@ pub record HoldsHeader (n m H : ℕ) (block : List ℕ) : Type 0 where
   pub spare : headerUnused block ≡ false
 
 module _ (n m H : ℕ) where
-  abbrev header-numbers : List ℕ
-  header-numbers = 1 ∷ 1 ∷ n ∷ m ∷ 0 ∷ H ∷ []
+  abbrev headerNumbers : List ℕ
+  headerNumbers = 1 ∷ 1 ∷ n ∷ m ∷ 0 ∷ H ∷ []
 
-  pub header-fit : n < 256 ^ 2 → m < 256 ^ 2 → H < 256 ^ 4 → Fit headerWidths header-numbers
+  pub header-fit : n < 256 ^ 2 → m < 256 ^ 2 → H < 256 ^ 4 → Fit headerWidths headerNumbers
   unfolding headerWidths
   header-fit a b c = (omega arith, (omega arith, (omega arith, (omega arith, (omega arith, (omega arith, tt))))))
 
-  pub header-long : Fit headerWidths header-numbers → length (laid headerWidths header-numbers) ≡ 12
+  pub header-long : Fit headerWidths headerNumbers → length (laid headerWidths headerNumbers) ≡ 12
   unfolding headerWidths
-  header-long f = length-laid headerWidths header-numbers f
+  header-long f = length-laid headerWidths headerNumbers f
 
   -- a block made of the numbers holds them
   pub header-holds : n < 256 ^ 2 → m < 256 ^ 2 → H < 256 ^ 4 → HoldsHeader n m H (headerBytes n m H)
   unfolding headerBytes headerWidths fields
   header-holds a b c =
-      let h = made headerWidths header-numbers (header-fit a b c) (omega arith) in
+      let h = made headerWidths headerNumbers (header-fit a b c) (omega arith) in
       let at : (i : ℕ) → _ = λ i. ap (λ (l : List ℕ). getD l i 0) (h .read) in
       record {
         long = h .long;
@@ -61,7 +61,7 @@ module _ (n m H : ℕ) where
 
   pub header-bytes : Bytes (headerBytes n m H)
   unfolding headerBytes
-  header-bytes = sealed-bytes (laid headerWidths header-numbers) (bytes-laid headerWidths header-numbers)
+  header-bytes = sealed-bytes (laid headerWidths headerNumbers) (bytes-laid headerWidths headerNumbers)
 
   -- and one that holds them is made of them
   pub header-again : (block : List ℕ) → Bytes block → HoldsHeader n m H block → headerBytes n m H ≡ block
@@ -69,8 +69,8 @@ module _ (n m H : ℕ) where
   header-again block b h =
       let z = unused (zeros 6 8 block) (zeros 12 508 block) (h .spare) in
       let spare : number 2 6 block ≡ 0 = number-zeros 6 2 block (z .0) in
-      let read : fields headerWidths 0 block ≡ header-numbers = rw (h .kind, h .edition, h .tasks, h .cores, spare, h .common) in
-      remade headerWidths header-numbers block b (omega arith) (record { long = h .long; check = h .check; read = read; spare = z .1 })
+      let read : fields headerWidths 0 block ≡ headerNumbers = rw (h .kind, h .edition, h .tasks, h .cores, spare, h .common) in
+      remade headerWidths headerNumbers block b (omega arith) (record { long = h .long; check = h .check; read = read; spare = z .1 })
 
 -- ---- a task
 -- its figures, as numbers one after the other
@@ -117,24 +117,24 @@ unfolding taskWidths
 total-task modes = omega (arith, total-words (3 * modes))
 
 module _ (num E modes permitted : ℕ) (figures : List ℕ) where
-  abbrev task-numbers : List ℕ
-  task-numbers = 2 ∷ E ∷ modes ∷ 0 ∷ permitted ∷ num ∷ figures
+  abbrev taskNumbers : List ℕ
+  taskNumbers = 2 ∷ E ∷ modes ∷ 0 ∷ permitted ∷ num ∷ figures
 
-  pub task-fit : TaskFits num E modes permitted figures → Fit (taskWidths modes) task-numbers
+  pub task-fit : TaskFits num E modes permitted figures → Fit (taskWidths modes) taskNumbers
   unfolding taskWidths
   task-fit t =
       let w : Fit (replicate (3 * modes) 4) figures = rw (t .three) at (words-fit figures (t .words)) in
       (omega arith, (omega arith, (omega arith, (omega arith, (omega arith, (omega arith, w))))))
 
-  pub task-long : Fit (taskWidths modes) task-numbers → length (laid (taskWidths modes) task-numbers) ≡ 8 + 12 * modes
-  task-long f = length-laid (taskWidths modes) task-numbers f ∙ total-task modes
+  pub task-long : Fit (taskWidths modes) taskNumbers → length (laid (taskWidths modes) taskNumbers) ≡ 8 + 12 * modes
+  task-long f = length-laid (taskWidths modes) taskNumbers f ∙ total-task modes
 
   -- a block made of the numbers holds them
   pub task-holds : TaskFits num E modes permitted figures → HoldsTask num E modes permitted figures (taskBytes num E modes permitted figures)
   unfolding taskBytes taskWidths fields
   task-holds t =
       let n = total-task modes in
-      let h = made (taskWidths modes) task-numbers (task-fit t) (omega (arith, t .few)) in
+      let h = made (taskWidths modes) taskNumbers (task-fit t) (omega (arith, t .few)) in
       let block = taskBytes num E modes permitted figures in
       let at : (i : ℕ) → _ = λ i. ap (λ (l : List ℕ). getD l i 0) (h .read) in
       let behind : zeros (8 + 12 * modes) 508 block ≡ true = rw n at (h .spare) in
@@ -152,7 +152,7 @@ module _ (num E modes permitted : ℕ) (figures : List ℕ) where
 
   pub task-bytes : Bytes (taskBytes num E modes permitted figures)
   unfolding taskBytes
-  task-bytes = sealed-bytes (laid (taskWidths modes) task-numbers) (bytes-laid (taskWidths modes) task-numbers)
+  task-bytes = sealed-bytes (laid (taskWidths modes) taskNumbers) (bytes-laid (taskWidths modes) taskNumbers)
 
   -- and one that holds them is made of them
   pub task-again : (block : List ℕ) → Bytes block → modes ≤ 16 → HoldsTask num E modes permitted figures block
@@ -162,7 +162,7 @@ module _ (num E modes permitted : ℕ) (figures : List ℕ) where
       let n = total-task modes in
       let z = unused (zeros 3 4 block) (zeros (8 + 12 * modesIn block) 508 block) (h .spare) in
       let spare : number 1 3 block ≡ 0 = number-zeros 3 1 block (z .0) in
-      let read : fields (taskWidths modes) 0 block ≡ task-numbers =
+      let read : fields (taskWidths modes) 0 block ≡ taskNumbers =
       rw (h .kind, h .elasticity, h .count, spare, h .mask, h .number, fields-flat modes 0 block, h .listing) in
       let behind : zeros (total (taskWidths modes)) 508 block ≡ true = rw (n, ← h .count) (z .1) in
-      remade (taskWidths modes) task-numbers block b (omega arith) (record { long = h .long; check = h .check; read = read; spare = behind })
+      remade (taskWidths modes) taskNumbers block b (omega arith) (record { long = h .long; check = h .check; read = read; spare = behind })

@@ -1,15 +1,16 @@
 -- `zeros`: byte by byte, as a run, and as a number. Assumes nothing.
-use Prim.Native.Nat.{ℕ, zero, suc, _+_, _≤_, _<_}
+use Prim.Native.Nat.{ℕ, zero, suc, _+_, _≤_, _<_, min}
 use native.Mathlib.Nat.{zero-add, suc-add}
 use native.Mathlib.Numerals.{add-one}
 use native.Mathlib.Omega.{arith}
-use mathlib.Core.Path.{_≡_, refl, ap, _∙_}
-use mathlib.Core.Bool.{true, false, _&&_}
+use mathlib.Core.Path.{_≡_, refl, ap}
+use mathlib.Core.Bool.{true, _&&_, and-assoc, and-comm}
 use mathlib.Core.List.{List, [], _∷_}
+use lib.Bits.{bitOr, or-zero-l, or-add-and, and-le-l, and-le-r}
 use lib.Dec.{eqb}
 use lib.ListN.{length, getD, take, drop, replicate, length-take, drop-of-length-le}
 use lib.Seq.{getD-take, take-nil}
-use borrow.Author.Tests.{eq-eqb, eqb-true, ne-eqb}
+use borrow.Author.Tests.{eqb-true, ne-eqb}
 use Rattle.answer.proofs.Bools.{and-true}
 use Rattle.block.specs.Bytes.{value, number, allZero, zeros}
 use Rattle.block.proofs.Numbers.{number-one}
@@ -25,18 +26,26 @@ zeros-more : (from to : ℕ) (s : List ℕ) → from < to → zeros from to s �
 unfolding zeros
 zeros-more from to s h = rw (add-one, number-one, ← getD-take to s from 0 h) (all-zero-more from (take to s))
 
--- a byte that isn't zero decides, and one that is leaves it to those behind it
-pub zeros-stop : (from to : ℕ) (s : List ℕ) → from < to → (number 1 from s ≡ 0 → ⊥) → zeros from to s ≡ false
-zeros-stop from to s h ne = zeros-more from to s h ∙ rw (ne-eqb (number 1 from s) 0 ne)
+-- the bits of two numbers together are 0 only where each of them is
+or-zeros : (a b : ℕ) → bitOr a b ≡ 0 → (a ≡ 0) × (b ≡ 0)
+or-zeros a b e = omega (arith, or-add-and a b, and-le-l a b, and-le-r a b, e)
 
-pub zeros-on : (from to : ℕ) (s : List ℕ) → from < to → number 1 from s ≡ 0 → zeros from to s ≡ zeros (from + 1) to s
-zeros-on from to s h e = zeros-more from to s h ∙ rw (eq-eqb (number 1 from s) 0 e)
+eqb-or : (a b : ℕ) → eqb (bitOr a b) 0 ≡ (eqb a 0 && eqb b 0)
+eqb-or zero b = rw or-zero-l
+eqb-or (suc a) b =
+    rw (ne-eqb (bitOr (suc a) b) 0 (λ e. omega (arith, or-zeros (suc a) b e)), ne-eqb (suc a) 0 (λ e. omega arith))
 
-pub zeros-none : (from to : ℕ) (s : List ℕ) → to ≤ from → zeros from to s ≡ true
+-- one byte more
+pub zeros-on : (seen from to : ℕ) (s : List ℕ) → from < to
+    → (eqb seen 0 && zeros from to s) ≡ (eqb (bitOr seen (getD s from 0)) 0 && zeros (from + 1) to s)
+zeros-on seen from to s h = rw (zeros-more from to s h, number-one, eqb-or, and-assoc)
+
+-- and none is left past the end
+pub zeros-end : (seen from to : ℕ) (s : List ℕ) → min to (length s) ≤ from → (eqb seen 0 && zeros from to s) ≡ eqb seen 0
 unfolding zeros allZero
-zeros-none from to s h =
-    let l : length (take to s) ≤ from = rw length-take (omega arith) in
-    rw (drop-of-length-le (take to s) l)
+zeros-end seen from to s h =
+    let l : length (take to s) ≤ from = rw length-take h in
+    rw (drop-of-length-le (take to s) l, and-comm)
 
 -- ---- zero bytes as a run
 pub all-zero : (n : ℕ) → allZero (replicate n 0) ≡ true

@@ -1,7 +1,8 @@
 // One block: the numbers in its bytes, its check, its unused bytes, and the tests that reading and writing share. Nothing here
 // requires anything: a block is whatever slice is lent, and past its end 0 is read.
 ghost use mathlib.Core.Path.{_≡_};
-ghost use Prim.Native.Nat.{_-_};
+ghost use Prim.Native.Nat.{_-_, min};
+ghost use lib.ListN.{length};
 ghost use Rattle.block.specs.Bytes.{number, checkOf, zeros};
 ghost use Rattle.block.specs.Tests.{
   outside,
@@ -44,15 +45,25 @@ pub fn get32(block: &[u8], at: u16) -> u32
     (b0 as u32) + 256 * (b1 as u32) + 65536 * (b2 as u32) + 16777216 * (b3 as u32)
 }
 
+// How far the bytes before an offset go: up to it, or to the end of a block that ends before. The two long loops below go so far and
+// need not ask of each byte whether it is there: most of the time that checking a table takes is theirs.
+fn end_of(block: &[u8], to: usize) -> usize
+    ensures { λ r. ⌜ r ≡ min to (length (now (block .entry))) ⌝ }
+{
+    if block.len() < to { block.len() } else { to }
+}
+
 // The check of a block: the sum of (offset + 1) times the byte, over offsets 0 to 507.
 pub fn check_of(block: &[u8]) -> u32
     ensures { λ r. ⌜ r ≡ checkOf (now (block .entry)) ⌝ }
 {
+    let end = end_of(block, 508);
     let mut sum: u32 = 0;
-    let mut i: u32 = 0;
-    while i < 508 {
-        let b = get8(block, i as usize);
-        sum += (i + 1) * (b as u32);
+    let mut i = 0;
+    while i < end {
+        // no wider than it has to be: more of them are multiplied at a time
+        let weight = i as u16 + 1;
+        sum += (weight as u32) * (block[i] as u32);
         i += 1;
     }
     sum
@@ -62,14 +73,14 @@ pub fn check_of(block: &[u8]) -> u32
 pub fn is_zero(block: &[u8], from: u16, to: u16) -> bool
     ensures { λ r. ⌜ r ≡ zeros from to (now (block .entry)) ⌝ }
 {
-    let mut at = from;
-    while at < to {
-        if get8(block, at as usize) != 0 {
-            return false;
-        }
+    let end = end_of(block, to as usize);
+    let mut seen: u8 = 0;
+    let mut at = from as usize;
+    while at < end {
+        seen |= block[at];
         at += 1;
     }
-    true
+    seen == 0
 }
 
 fn is_outside(low: u32, high: u32, x: u32) -> bool

@@ -6,10 +6,10 @@ use native.Mathlib.Numerals.{add-one}
 use borrow.Author.Tests.{le-leb, lt-leb}
 use lib.ListN.{length, getD, drop, drop-of-length-le}
 use lib.Seq.{drop-cons}
-use Rattle.model.specs.Cells.{mark, may, onward, least}
+use Rattle.model.specs.Cells.{mark, may, onward, offered, least}
 use Rattle.model.proofs.Sums.{sound-le}
 use Rattle.model.proofs.Least.{least-sound}
-use Rattle.cells.specs.Rows.{held, heldTask, offered}
+use Rattle.cells.specs.Rows.{held, heldTask}
 
 -- a mode within the column, and one beyond it
 module _ (need cost : ℕ) (next : ℕ → ℕ) (c : ℕ) where

@@ -1,10 +1,10 @@
 -- A task as two runs of numbers, and the rules of a row by the number at which its cells start.
 use Prim.Native.Nat.{ℕ, _+_, _-_}
-use mathlib.Core.Bool.{true, cond}
+use mathlib.Core.Bool.{true}
 use mathlib.Core.List.{List, [], _∷_}
 use lib.ListN.{getD}
 use Rattle.model.specs.Plan.{Option, Task}
-use Rattle.model.specs.Cells.{mark, reads, may, onward, least}
+use Rattle.model.specs.Cells.{reads, least}
 use Rattle.model.specs.Workspace.{Rule}
 
 -- a mode that may be chosen wherever its cores allow it
@@ -16,10 +16,6 @@ unfoldable pub heldTask : List ℕ → List ℕ → Task
 heldTask [] costs = []
 heldTask (need ∷ needs) [] = []
 heldTask (need ∷ needs) (cost ∷ costs) = held need cost ∷ heldTask needs costs
-
--- what a mode offers at column c, over the next row; the mark if it needs more cores
-abbrev pub offered : Option → (ℕ → ℕ) → ℕ → ℕ
-offered o next c = cond (may o c) (onward o next c) mark
 
 -- the row whose cells start at a number, as they read
 abbrev pub rowFrom : List ℕ → ℕ → ℕ → ℕ

@@ -3,13 +3,22 @@
 ghost use mathlib.Core.Path.{_≡_};
 ghost use Prim.Native.Nat.{_+_, _-_, _≤_, _<_, min};
 ghost use lib.ListN.{length};
-ghost use Rattle.model.specs.Cells.{reads as readsAs, plus as plusAs, onward as onwardAs, least as leastAs};
+ghost use Rattle.model.specs.Cells.{reads as readsAs, onward as onwardAs, offered, least as leastAs};
 ghost use Rattle.model.specs.Workspace.{fill};
-ghost use Rattle.cells.specs.Rows.{held, offered, heldTask, rowFrom, lastRow, taskRow};
+ghost use Rattle.cells.specs.Rows.{held, heldTask, rowFrom, lastRow, taskRow};
+ghost use Rattle.cells.specs.Held.{counts, AllCount, HeldRow};
 
+// The mark, 2^64 - 1.
 pub const MARK: u64 = 18446744073709551615;
 
+// The cost ceiling: a plan costs at most this.
 const CEILING: u64 = 3303014400000000000;
+
+// What a number above the ceiling counts as in a sum.
+const BEYOND: u64 = 3303014400000000001;
+
+// The cells of the widest row: 64 cores and none.
+const WIDEST: usize = 65;
 
 // A number above the cost ceiling reads as the mark.
 pub fn reads(x: u64) -> u64
@@ -18,14 +27,11 @@ pub fn reads(x: u64) -> u64
     if x <= CEILING { x } else { MARK }
 }
 
-// A sum above the cost ceiling is written as the mark.
-fn plus(a: u64, b: u64) -> u64
-    ensures { λ r. ⌜ r ≡ plusAs a b ⌝ }
+// A number as it counts in a sum.
+fn count_of(x: u64) -> u64
+    ensures { λ r. ⌜ r ≡ counts x ⌝ }
 {
-    if CEILING < a {
-        return MARK;
-    }
-    if b <= CEILING - a { a + b } else { MARK }
+    if x <= CEILING { x } else { BEYOND }
 }
 
 // A mode's cost plus the cell in the next row, at the column less its cores; the next row's cells start at `next`.
@@ -34,18 +40,34 @@ pub fn onward(need: u64, cost: u64, cells: &[u64], next: usize, column: usize) -
     ensures { λ r. ⌜ r ≡ onwardAs (held need cost) (rowFrom (now (cells .entry)) next) column ⌝ }
 {
     let cell = cells[next + (column - need as usize)];
-    plus(cost, reads(cell))
+    reads(count_of(cost) + count_of(cell))
 }
 
-// The same, and the mark where the mode needs more cores than the column's number.
-fn offer(need: u64, cost: u64, cells: &[u64], next: usize, column: usize) -> u64
-    requires { ⌜ next + column < length (now cells) ⌝ }
-    ensures { λ r. ⌜ r ≡ offered (held need cost) (rowFrom (now (cells .entry)) next) column ⌝ }
+// The first cells of the row that starts at `next`, as they count in sums.
+fn hold_row(cells: &[u64], next: usize, end: usize) -> [u64; WIDEST]
+    requires { ⌜ (end ≤ 65) × (next + end ≤ length (now cells)) ⌝ }
+    ensures { λ r. ⌜ HeldRow (now (cells .entry)) next end r ⌝ }
+{
+    let mut row = [0u64; WIDEST];
+    let mut c = 0;
+    while c < end {
+        let count = count_of(cells[next + c]);
+        row[c] = count;
+        c += 1;
+    }
+    row
+}
+
+// A mode's cost plus the cell in the next row, at the column less its cores, as it counts in sums; past the ceiling where the mode
+// needs more cores than the column's number.
+fn offer(need: u64, cost: u64, row: &[u64], column: usize) -> u64
+    requires { ⌜ (column < length (now row)) × AllCount (now row) ⌝ }
+    ensures { λ r. ⌜ readsAs r ≡ offered (held need cost) (rowFrom (now (row .entry)) 0) column ⌝ }
 {
     if column < need as usize {
-        return MARK;
+        return BEYOND;
     }
-    onward(need, cost, cells, next, column)
+    count_of(cost) + row[column - need as usize]
 }
 
 fn lesser(a: u64, b: u64) -> u64
@@ -55,17 +77,17 @@ fn lesser(a: u64, b: u64) -> u64
 }
 
 // The least over the modes.
-fn least(need: &[u64], cost: &[u64], cells: &[u64], next: usize, column: usize) -> u64
-    requires { ⌜ (length (now need) ≡ length (now cost)) × (next + column < length (now cells)) ⌝ }
-    ensures { λ r. ⌜ r ≡ leastAs (heldTask (now (need .entry)) (now (cost .entry))) (rowFrom (now (cells .entry)) next) column ⌝ }
+fn least(need: &[u64], cost: &[u64], row: &[u64], column: usize) -> u64
+    requires { ⌜ (length (now need) ≡ length (now cost)) × (column < length (now row)) × AllCount (now row) ⌝ }
+    ensures { λ r. ⌜ r ≡ leastAs (heldTask (now (need .entry)) (now (cost .entry))) (rowFrom (now (row .entry)) 0) column ⌝ }
 {
-    let mut best = MARK;
+    let mut best = BEYOND;
     let mut j = 0;
     while j < need.len() {
-        best = lesser(best, offer(need[j], cost[j], cells, next, column));
+        best = lesser(best, offer(need[j], cost[j], row, column));
         j += 1;
     }
-    best
+    reads(best)
 }
 
 // Fills cells of row n from one number up to another.
@@ -80,7 +102,8 @@ pub fn clear_run(cells: &mut [u64], from: usize, to: usize)
     }
 }
 
-// Fills cells of a task's row, which starts at `start`, from one number up to another; the next row's cells start at `next`.
+// Fills cells of a task's row, which starts at `start`, from one number up to another; the next row's cells start at `next`, and are
+// held once for the whole run.
 pub fn fill_run(
     need: &[u64],
     cost: &[u64],
@@ -90,12 +113,14 @@ pub fn fill_run(
     from: usize,
     to: usize,
 )
-    requires { ⌜ (length (now need) ≡ length (now cost)) × (next ≤ start) × (start ≤ from) × (from ≤ to) × (to ≤ length (now cells)) ⌝ }
+    requires { ⌜ length (now need) ≡ length (now cost) ⌝ }
+    requires { ⌜ (start ≤ from) × (from ≤ to) × (to ≤ length (now cells)) × (to ≤ start + 65) × (next + (to - start) ≤ start) ⌝ }
     ensures { λ _. ⌜ now (cells .exit) ≡ fill (taskRow (heldTask (now (need .entry)) (now (cost .entry))) next start) (now (cells .entry)) from (to - from) ⌝ }
 {
+    let row = hold_row(&*cells, next, to - start);
     let mut p = from;
     while p < to {
-        let v = least(need, cost, &*cells, next, p - start);
+        let v = least(need, cost, &row, p - start);
         cells[p] = v;
         p += 1;
     }

@@ -9,19 +9,18 @@ use lib.Dec.{leb, ltb}
 use lib.ListN.{length}
 use Rattle.answer.specs.Said.{Said, refused, written, filled, plan}
 use Rattle.answer.specs.Order.{Row, row, first, Outcome}
-use Rattle.answer.proofs.Rows.{kind}
+use Rattle.answer.proofs.Rows.{kind, plan-refused}
 use Rattle.answer.proofs.Outcomes.{unchanged}
 use Rattle.model.specs.Turns.{eachFrom}
 use Rattle.model.specs.Workspace.{advance}
 use Rattle.model.specs.Taking.{takeRows}
-use Rattle.block.specs.Layout.{tasksIn, commonIn, modesIn, Figures, figuresIn}
+use Rattle.block.specs.Layout.{tasksIn, commonIn, modesIn, Figures, figuresIn, threes}
 use Rattle.block.specs.Tests.{figureRows, modesRows}
 use Rattle.table.specs.Order.{headerBlock, taskBlock, headerRows, headerSaid, taskRows, taskSaid, figuresSaid, wholeTaskRows, otherLength, frontRows, tasksRows, tableRows, askTaskRows, askModeRows}
 use Rattle.table.specs.Numbers.{numbersIn}
-use Rattle.block.specs.Layout.{threes}
+use Rattle.options.specs.Tasks.{tasksOfTable, coresOfTable, cellsOfTable}
 use Rattle.writer.specs.Order.{roomRows, writeHeaderRows, numberRows, writeTaskRows}
 use Rattle.portions.specs.Portion.{ownRows, portionRows}
-use Rattle.options.specs.Tasks.{tasksOfTable, coresOfTable, cellsOfTable}
 use Rattle.taking.specs.Take.{cellOf, lentRows, takingRows}
 use Rattle.taking.specs.declared.Taken.{Taken}
 use Rattle.taking.specs.Said as taking
@@ -117,16 +116,16 @@ header-rows : (n m H room : ℕ) → Each (AtFront (5 ∷ 15 ∷ [])) (writeHead
 unfolding writeHeaderRows
 header-rows n m H room = ((tt, refl), ((tt, refl), tt))
 
-abbrev task-numbers : List ℕ
-task-numbers = 5 ∷ 8 ∷ 9 ∷ 10 ∷ 11 ∷ 12 ∷ 13 ∷ 15 ∷ []
+abbrev taskRefusals : List ℕ
+taskRefusals = 5 ∷ 8 ∷ 9 ∷ 10 ∷ 11 ∷ 12 ∷ 13 ∷ 15 ∷ []
 
-task-rows : (H number E modes permitted : ℕ) (figures : List ℕ) (room : ℕ) → Each (AtFront task-numbers) (writeTaskRows H number E modes permitted figures room)
+task-rows : (H number E modes permitted : ℕ) (figures : List ℕ) (room : ℕ) → Each (AtFront taskRefusals) (writeTaskRows H number E modes permitted figures room)
 unfolding writeTaskRows
 task-rows H number E modes permitted figures room =
-    each-append (AtFront task-numbers) (numberRows H number E modes permitted (length figures)) (modesRows 0 H (threes figures) ++ roomRows room)
+    each-append (AtFront taskRefusals) (numberRows H number E modes permitted (length figures)) (modesRows 0 H (threes figures) ++ roomRows room)
     ((tt, refl), ((tt, refl), ((tt, refl), ((tt, refl), tt))))
-    (each-append (AtFront task-numbers) (modesRows 0 H (threes figures)) (roomRows room)
-    (each-modes (AtFront task-numbers) 0 (tt, refl) (tt, refl) (tt, refl) H (threes figures)) ((tt, refl), tt))
+    (each-append (AtFront taskRefusals) (modesRows 0 H (threes figures)) (roomRows room)
+    (each-modes (AtFront taskRefusals) 0 (tt, refl) (tt, refl) (tt, refl) H (threes figures)) ((tt, refl), tt))
 
 portion-rows : (bytes : List ℕ) (room p : ℕ) → Each (With bytes (15 ∷ 16 ∷ [])) (portionRows bytes room p)
 unfolding portionRows
@@ -145,15 +144,11 @@ whole-rows bytes cells out =
     lent bytes (14 ∷ 15 ∷ []) (row 15 0 (ltb cells (cellsOfTable bytes)) ∷ row 15 0 (ltb out (numbersIn bytes .tasks)) ∷ [])
     (inr (tt, refl), (inr (tt, refl), tt))
 
-module _ (bytes cells out : List ℕ) (s : Said) where
-  planned-refused : (u v k at : ℕ) {A : Type 0} → s ≡ plan u v → s ≡ refused k at → A
-  planned-refused u v k at e r = let z : _≡_ {A = ℕ} 6 0 = ap kind (sym e ∙ r) in absurd (omega arith)
-
-  at-14 : (k at : ℕ) → s ≡ refused 14 0 → s ≡ refused k at → With bytes (14 ∷ 15 ∷ []) k at
-  at-14 k at e r =
-      let number : 14 ≡ k = cc in
-      let place : 0 ≡ at = cc in
-      rw (← number, ← place) (inr (tt, refl))
+at-14 : (bytes : List ℕ) (s : Said) (k at : ℕ) → s ≡ refused 14 0 → s ≡ refused k at → With bytes (14 ∷ 15 ∷ []) k at
+at-14 bytes s k at e r =
+    let number : 14 ≡ k = cc in
+    let place : 0 ≡ at = cc in
+    rw (← number, ← place) (inr (tt, refl))
 
 whole : (bytes cells out : List ℕ) (r : Taken) (cells' out' : List ℕ) → PlannedWhole bytes cells out r cells' out'
     → RefusedAs (With bytes (14 ∷ 15 ∷ [])) (taking.said r)
@@ -169,11 +164,11 @@ whole bytes cells out r cells' out' (inr w) = ends (w .ends)
     ends : Ends bytes cells out r cells' out'
         → RefusedAs (With bytes (14 ∷ 15 ∷ [])) (taking.said r) × ChangesNothing (taking.said r) cells cells' × ChangesNothing (taking.said r) out out'
     ends (inl (s, g, c)) = (
-      λ k at e. planned-refused bytes cells out (taking.said r) _ _ k at (g .answer) e,
-      λ k at e. planned-refused bytes cells out (taking.said r) _ _ k at (g .answer) e,
-      λ k at e. planned-refused bytes cells out (taking.said r) _ _ k at (g .answer) e,
+      λ k at e. plan-refused (g .answer) e,
+      λ k at e. plan-refused (g .answer) e,
+      λ k at e. plan-refused (g .answer) e,
     )
-    ends (inr (g, c)) = (λ k at e. at-14 bytes cells out (taking.said r) k at (g .answer) e, λ k at e. c, λ k at e. g .kept)
+    ends (inr (g, c)) = (λ k at e. at-14 bytes (taking.said r) k at (g .answer) e, λ k at e. c, λ k at e. g .kept)
 
 pub demand-1 : Demand1
 demand-1 =

@@ -5,52 +5,51 @@ use mathlib.Core.Path.{_≡_, sym, ap, ap₂, subst, _∙_}
 use mathlib.Core.Logic.{inl, inr, ⊎-elim}
 use mathlib.Core.List.{List}
 use lib.ListN.{length, getD}
-use Rattle.answer.specs.Said.{header, task, figures}
+use Rattle.answer.specs.Said.{header, task}
 use Rattle.answer.specs.Order.{NoneGiven}
-use Rattle.answer.proofs.Rows.{first-none}
-use Rattle.block.specs.Bytes.{Bytes}
 use Rattle.model.specs.Rules.{coresOf, demandOf, costOf}
 use Rattle.model.specs.Plan.{Option}
 use Rattle.model.specs.Turns.{eachFrom}
-use Rattle.block.specs.Layout.{elasticityIn, modesIn, permittedIn, Figures, figuresIn, flat}
-use Rattle.block.specs.Tests.{allows}
-use Rattle.block.specs.Whole.{headerBytes}
 use Rattle.model.proofs.Turns.{each-same, same-each}
-use Rattle.block.proofs.Figures.{flat-same}
-use Rattle.block.proofs.Round.{HoldsHeader, header-bytes, header-again, HoldsTask, task-bytes, task-again}
-use Rattle.table.specs.Order.{blockAt, headerBlock, taskBlock, headerSaid, taskSaid, figuresSaid, tableRows}
-use Rattle.table.specs.Numbers.{figuresOf, Numbers, numbersIn}
-use Rattle.table.specs.Lawful.{Lawful}
-use Rattle.table.proofs.Blocks.{bytes-block}
-use Rattle.table.proofs.Accepted.{lawful, accepted-none}
-use Rattle.table.proofs.Held.{Holds, holds-none, none-holds, task-asked, mode-asked}
 use Rattle.model.specs.Workspace.{advance}
 use Rattle.model.proofs.Fills.{fill-length, fill-outside}
 use Rattle.model.proofs.Locals.{fill-holds, rule-local}
+use Rattle.block.specs.Bytes.{Bytes}
+use Rattle.block.specs.Layout.{elasticityIn, modesIn, permittedIn, Figures, figuresIn, flat}
+use Rattle.block.specs.Tests.{allows}
+use Rattle.block.specs.Whole.{headerBytes}
+use Rattle.block.proofs.Figures.{flat-same}
+use Rattle.block.proofs.Round.{HoldsHeader, header-bytes, header-again, HoldsTask, task-bytes, task-again}
+use Rattle.table.specs.Order.{blockAt, headerBlock, taskBlock, taskSaid, figuresSaid, tableRows}
+use Rattle.table.specs.Numbers.{figuresOf, Numbers, numbersIn}
+use Rattle.table.specs.Lawful.{Lawful}
+use Rattle.table.proofs.Blocks.{bytes-block}
+use Rattle.table.proofs.Accepted.{lawful, answered-none, accepted-none}
+use Rattle.table.proofs.Held.{Holds, holds-none, none-holds, task-asked, mode-asked}
 use Rattle.options.specs.Tasks.{optionOf, taskOf, tasksOf, tasksOfTable, coresOfTable, cellsOfTable}
 use Rattle.portions.specs.Portion.{ruleOf}
 use Rattle.portions.proofs.Laws.{step-went}
 use Rattle.demands.specs.Demand2.{ReadsAs, WrittenAs, EveryLawfulTableIsAccepted, WrittenAndReadBack, ReadAndRewritten, APortionFillsJustTheCellsItPaysFor, Demand2}
 use Rattle.demands.proofs.Blocks.{together, length-together, block-together, bytes-together, same-blocks}
-use Rattle.demands.proofs.Writers.{header-made, header-writes, header-wrote, task-block, task-made, task-writes, task-wrote}
+use Rattle.demands.proofs.Writers.{header-made, header-writes, header-wrote, bytesOf, task-made, task-writes, task-wrote}
 
 -- ---- the blocks of a table, by their number: the header, then the tasks
-abbrev block-of : Numbers → ℕ → List ℕ
-block-of t zero = headerBytes (t .tasks) (t .cores) (t .common)
-block-of t (suc i) = task-block i (t .task i)
+abbrev blockOf : Numbers → ℕ → List ℕ
+blockOf t zero = headerBytes (t .tasks) (t .cores) (t .common)
+blockOf t (suc i) = bytesOf i (t .task i)
 
-abbrev table-of : Numbers → List ℕ
-table-of t = together (block-of t) 0 (t .tasks + 1)
+abbrev tableOf : Numbers → List ℕ
+tableOf t = together (blockOf t) 0 (t .tasks + 1)
 
-block-bytes : (t : Numbers) (k : ℕ) → Bytes (block-of t k)
+block-bytes : (t : Numbers) (k : ℕ) → Bytes (blockOf t k)
 block-bytes t zero = header-bytes (t .tasks) (t .cores) (t .common)
 block-bytes t (suc i) = let a = t .task i in task-bytes i (a .elasticity) (a .modes) (a .permitted) (figuresOf a)
 
 -- each block of the bytes is the one that is made of the numbers
 pub record Blocks (t : Numbers) (bytes : List ℕ) : Type 0 where
   pub long : length bytes ≡ 512 * (t .tasks + 1)
-  pub front : headerBlock bytes ≡ block-of t 0
-  pub each-task : (i : ℕ) → i < t .tasks → taskBlock bytes i ≡ task-block i (t .task i)
+  pub front : headerBlock bytes ≡ blockOf t 0
+  pub each-task : (i : ℕ) → i < t .tasks → taskBlock bytes i ≡ bytesOf i (t .task i)
 
 -- so it is of what the writers have written
 written-blocks : (t : Numbers) (bytes : List ℕ) → WrittenAs t bytes → Blocks t bytes
@@ -84,7 +83,7 @@ module _ (t : Numbers) (l : Lawful t) where
 
   holds-task : (i : ℕ) → i < t .tasks
       → let a = t .task i in
-      HoldsTask i (a .elasticity) (a .modes) (a .permitted) (figuresOf a) (task-block i a)
+      HoldsTask i (a .elasticity) (a .modes) (a .permitted) (figuresOf a) (bytesOf i a)
   holds-task i less =
       task-made (t .tasks) (t .cores) (t .common) i (t .task i) (l .header) less (l .task i less) (λ j few. l .mode i j less few)
 
@@ -98,20 +97,20 @@ module _ (t : Numbers) (l : Lawful t) where
             subst (HoldsTask i (a .elasticity) (a .modes) (a .permitted) (figuresOf a)) (sym (b .each-task i less)) (holds-task i less);
       }
 
-  block-long : (k : ℕ) → k < t .tasks + 1 → length (block-of t k) ≡ 512
+  block-long : (k : ℕ) → k < t .tasks + 1 → length (blockOf t k) ≡ 512
   block-long zero h = header-made (t .tasks) (t .cores) (t .common) (l .header) .long
   block-long (suc i) h = holds-task i (omega arith) .long
 
   -- the written table has these blocks
-  table-blocks : Blocks t (table-of t)
+  table-blocks : Blocks t (tableOf t)
   table-blocks =
-      let long : (k : ℕ) → 0 ≤ k → k < 0 + (t .tasks + 1) → length (block-of t k) ≡ 512 = λ k low high. block-long k (omega arith) in
+      let long : (k : ℕ) → 0 ≤ k → k < 0 + (t .tasks + 1) → length (blockOf t k) ≡ 512 = λ k low high. block-long k (omega arith) in
       record {
-        long = length-together (block-of t) 0 (t .tasks + 1) long;
-        front = block-together (block-of t) 0 (t .tasks + 1) 0 long (omega arith);
+        long = length-together (blockOf t) 0 (t .tasks + 1) long;
+        front = block-together (blockOf t) 0 (t .tasks + 1) 0 long (omega arith);
         each-task = λ i less.
             let e : 0 + (i + 1) ≡ suc i = omega arith in
-            block-together (block-of t) 0 (t .tasks + 1) (i + 1) long (omega arith) ∙ ap (block-of t) e;
+            block-together (blockOf t) 0 (t .tasks + 1) (i + 1) long (omega arith) ∙ ap (blockOf t) e;
       }
 
 -- ---- written, then read
@@ -137,13 +136,13 @@ written-and-read-back t bytes l w =
 
 pub every-lawful-table-is-accepted : EveryLawfulTableIsAccepted
 every-lawful-table-is-accepted t l =
-    let w = blocks-written t l (table-of t) (table-blocks t l) in
-    (table-of t, bytes-together (block-of t) (block-bytes t) 0 (t .tasks + 1), w, written-and-read-back t (table-of t) l w .front)
+    let w = blocks-written t l (tableOf t) (table-blocks t l) in
+    (tableOf t, bytes-together (blockOf t) (block-bytes t) 0 (t .tasks + 1), w, written-and-read-back t (tableOf t) l w .front)
 
 -- ---- read, then written
 -- an option by what it is made of
-abbrev option-by : ℕ → ℕ → ℕ → ℕ → Figures → Figures → Option
-option-by H j E permitted nominal own =
+abbrev optionBy : ℕ → ℕ → ℕ → ℕ → Figures → Figures → Option
+optionBy H j E permitted nominal own =
     record {
       permitted = allows permitted j;
       need = coresOf (own .work) (own .span) (own .period);
@@ -215,8 +214,8 @@ module _ (bytes : List ℕ) (b : Bytes bytes) (p : NoneGiven (tableRows bytes)) 
       option-same : (H j : ℕ) → j < t .task i .modes → optionOf H (numbersIn bytes .task i) j ≡ optionOf H (t .task i) j
       option-same H j few =
           let f = figuresIn (taskBlock bytes i) in
-          ap₂ (λ (E permitted : ℕ). option-by H j E permitted (f 0) (f j)) elasticity-same permitted-same
-          ∙ ap₂ (λ (nominal own : Figures). option-by H j (t .task i .elasticity) (t .task i .permitted) nominal own) (mode-same 0 (omega arith)) (mode-same j few)
+          ap₂ (λ (E permitted : ℕ). optionBy H j E permitted (f 0) (f j)) elasticity-same permitted-same
+          ∙ ap₂ (λ (nominal own : Figures). optionBy H j (t .task i .elasticity) (t .task i .permitted) nominal own) (mode-same 0 (omega arith)) (mode-same j few)
 
       options-same : (H : ℕ) → taskOf H (numbersIn bytes .task i) ≡ taskOf H (t .task i)
       unfolding taskOf
@@ -245,7 +244,7 @@ module _ (bytes : List ℕ) (b : Bytes bytes) (p : NoneGiven (tableRows bytes)) 
 
 pub read-and-rewritten : ReadAndRewritten
 read-and-rewritten bytes b (n, m, H, e) =
-    let p = first-none (tableRows bytes) (headerSaid (headerBlock bytes)) (λ z. omega (arith, z)) (sym e) in (
+    let p = answered-none bytes e in (
       (numbersIn bytes, reads (numbersIn bytes) bytes (none-holds bytes p) p),
       λ t r.
           let w = rewritten bytes b p t r in

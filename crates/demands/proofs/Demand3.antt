@@ -1,5 +1,5 @@
 -- Demand 3. Assumes nothing.
-use Prim.Native.Nat.{ℕ, _+_, _-_, _≤_, _<_}
+use Prim.Native.Nat.{ℕ, _-_, _≤_, _<_}
 use native.Mathlib.Omega.{arith}
 use native.Mathlib.Nat.{mul-le-mul}
 use mathlib.Core.Path.{_≡_, sym, ap, subst, _∙_}
@@ -7,20 +7,20 @@ use mathlib.Core.Logic.{_⊎_, inl, inr, _↔_}
 use mathlib.Core.List.{List, [], _∷_, _++_}
 use borrow.Author.Tests.{le-ltb}
 use lib.ListN.{length, getD}
-use Rattle.answer.specs.Said.{refused, filled, plan}
+use Rattle.answer.specs.Said.{refused, plan}
 use Rattle.answer.specs.Order.{Outcome, NoneGiven}
-use Rattle.answer.proofs.Rows.{kind, none-first, append-none, first-none}
+use Rattle.answer.proofs.Rows.{kind, none-first, append-none, plan-refused}
 use Rattle.answer.proofs.Outcomes.{gone, unchanged, beyond}
 use Rattle.model.specs.Plan.{NothingFits}
-use Rattle.model.specs.Workspace.{cellCount, cellIn, advance, progressAfter, portions}
+use Rattle.model.specs.Workspace.{cellCount, cellIn, advance, progressAfter}
 use Rattle.model.specs.Taking.{used, takeRows, takeSaid, takeModes, Holds, Right}
 use Rattle.model.proofs.Fills.{progress-within, portions-fill, fill-length}
 use Rattle.model.proofs.Values.{filled-holds}
 use Rattle.model.proofs.Taken.{take-right}
-use Rattle.table.specs.Order.{headerBlock, headerSaid, tableRows}
+use Rattle.table.specs.Order.{tableRows}
 use Rattle.table.specs.Numbers.{numbersIn}
 use Rattle.table.specs.Lawful.{LawfulTable}
-use Rattle.table.proofs.Accepted.{lawful}
+use Rattle.table.proofs.Accepted.{lawful, answered-none}
 use Rattle.options.specs.Tasks.{tasksOfTable, coresOfTable, cellsOfTable}
 use Rattle.options.proofs.Tables.{tasks-length, limits}
 use Rattle.portions.specs.Portion.{ownRows, portionRows, ruleOf, FilledTo}
@@ -87,7 +87,7 @@ module _ (bytes cells : List ℕ) (table : LawfulTable bytes) (f : FilledTo byte
     exactly : ((s : List ℕ) × PlanGiven bytes s out r out') ⊎ NoPlanFits bytes out r out'
         → (said r ≡ refused 14 0) ↔ NothingFits (tasksOfTable bytes) (coresOfTable bytes)
     exactly (inl (s, g)) =
-        (λ e. absurd (let z : _≡_ {A = ℕ} 6 0 = ap kind (sym (g .answer) ∙ e) in omega arith), λ n. absurd (n s (g .plan-is .lawful) (g .plan-is .fits)))
+        (λ e. plan-refused (g .answer) e, λ n. absurd (n s (g .plan-is .lawful) (g .plan-is .fits)))
     exactly (inr g) = (λ e. g .nothing, λ n. g .answer)
 
     pub right-answer : RightAnswer bytes out r out'
@@ -139,7 +139,7 @@ pub no-portion-is-refused : NoPortionIsRefused
 unfolding portionRows
 no-portion-is-refused bytes cells accepted room budgets filling p run b r after o =
     let w = run-within bytes budgets cells filling p run in
-    let none = first-none (tableRows bytes) (headerSaid (headerBlock bytes)) (λ z. omega (arith, z)) (sym (accepted .3)) in
+    let none = answered-none bytes (accepted .3) in
     let long : cellsOfTable bytes ≤ length filling = omega (arith, w .0) in (
       advance (cellsOfTable bytes) p b,
       o .outcome .says

@@ -82,12 +82,15 @@ module _ (bytes before : List ℕ) where
               since = inr (none, omega arith);
             }
 
-        -- is further on, or all cells are filled
-        pub further : q ≢ p → (p < q) × (q ≤ cellsOfTable bytes)
-        further other = omega (arith, w .within, w .progress)
+        pub no-less : p ≤ q
+        no-less = omega (arith, w .within, w .progress)
 
-        pub all : 1 ≤ b → q ≡ p → AllFilled bytes before (filled q) e
-        all some still =
+        -- is further on where the budget was spent; where some of it is left all cells are filled
+        pub further : 1 ≤ b → b ≤ q - p → (p < q) × (q ≤ cellsOfTable bytes)
+        further some spent = omega (arith, w .within, w .progress)
+
+        pub all : q - p < b → AllFilled bytes before (filled q) e
+        all left =
             let end : q ≡ cellsOfTable bytes = omega (arith, w .within, w .progress) in
             goes (portionRows bytes (length before) 0) (filled (cellsOfTable bytes)) before (fill (ruleOf bytes) before 0 (cellsOfTable bytes)) none
             (ap filled end) (turn .so-far ∙ ap (fill (ruleOf bytes) before 0) end)

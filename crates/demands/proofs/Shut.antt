@@ -2,21 +2,22 @@
 use Prim.Native.Nat.{ℕ, zero, suc, _≤_, _<_}
 use native.Mathlib.Omega.{arith}
 use mathlib.Core.Path.{_≡_, refl, sym, ap, subst₂, _∙_}
-use mathlib.Core.Logic.{_⊎_, inl, inr, _≢_}
+use mathlib.Core.Logic.{_⊎_, inl, inr}
 use mathlib.Core.List.{List, [], _∷_}
 use lib.ListN.{length, getD, take, drop}
 use lib.Seq.{take-append-seam}
-use Rattle.answer.specs.Said.{Said, refused, plan}
+use Rattle.answer.specs.Said.{plan}
 use Rattle.answer.specs.Order.{NoneGiven}
-use Rattle.answer.proofs.Rows.{kind, first-none}
+use Rattle.answer.proofs.Rows.{plan-refused}
 use Rattle.model.specs.Plan.{Task, Lawful as LawfulSelection, Fits, IsPlan, totalCores, totalCost}
 use Rattle.model.proofs.Order.{one-plan}
 use Rattle.block.specs.Bytes.{Bytes}
 use Rattle.block.specs.Tests.{allows, anyAllowed}
-use Rattle.table.specs.Order.{headerBlock, headerSaid, tableRows}
+use Rattle.table.specs.Order.{tableRows}
 use Rattle.table.specs.Numbers.{numbersIn}
 use Rattle.table.specs.Lawful.{LawfulTask, LawfulFigures, Lawful}
 use Rattle.table.proofs.Limits.{task-lawful, figures-lawful}
+use Rattle.table.proofs.Accepted.{answered-none}
 use Rattle.options.specs.Tasks.{tasksOf, tasksOfTable, coresOfTable}
 use Rattle.options.proofs.Tables.{tasks-length, task-at, task-length}
 use Rattle.taking.specs.declared.Taken.{Taken}
@@ -30,9 +31,6 @@ use Rattle.demands.specs.ShutOut.{NoneRefusesEverything, NoneHasAConstan
 use Rattle.demands.proofs.Demand2.{every-lawful-table-is-accepted, written-and-read-back, a-portion-fills-just-the-cells-it-pays-for, tasks-same, cores-same, tasks-read}
 use Rattle.demands.proofs.Demand3.{asked-lawful, the-plan-is-right, no-portion-is-refused}
 use Rattle.demands.proofs.Examples.{plan-of-5, plan-of-6}
-
-no-refusal : {s : Said} {u v k at : ℕ} → s ≡ plan u v → s ≢ refused k at
-no-refusal e r = let z : _≡_ {A = ℕ} 6 0 = ap kind (sym e ∙ r) in omega arith
 
 -- ---- a plan that is given
 -- unless nothing fits
@@ -52,7 +50,7 @@ given a s l f = given-unless a (λ n. n .nothing s l f)
 -- where a plan is answered
 answered : {bytes out : List ℕ} {r : Taken} {out' : List ℕ} {u v : ℕ} → Asked bytes out r out' → said r ≡ plan u v
     → (t : List ℕ) × PlanGiven bytes t out r out'
-answered a e = given-unless a (λ n. no-refusal e (n .answer))
+answered a e = given-unless a (λ n. plan-refused e (n .answer))
 
 -- its modes are one per task, and they are what is written
 modes-many : (ts : List Task) (s : List ℕ) → LawfulSelection ts s → length s ≡ length ts
@@ -69,7 +67,7 @@ modes-written bytes s out r out' g =
 -- ---- each program
 none-refuses-everything : NoneRefusesEverything
 none-refuses-everything =
-    (every-lawful-table-is-accepted, no-portion-is-refused, λ bytes out r out' a s l f k at. no-refusal (given a s l f .1 .answer))
+    (every-lawful-table-is-accepted, no-portion-is-refused, λ bytes out r out' a s l f k at. plan-refused (given a s l f .1 .answer))
 
 none-writes-nothing : NoneWritesNothing
 none-writes-nothing bytes out r out' u v a e first same =
@@ -142,7 +140,7 @@ module _ (m : ℕ) (low : 1 ≤ m) (high : m ≤ 64) where
   accepted = (sample m .tasks, sample m .cores, sample m .common, table-reads .front)
 
   none : NoneGiven (tableRows Table)
-  none = first-none (tableRows Table) (headerSaid (headerBlock Table)) (λ z. omega (arith, z)) (sym (table-reads .front))
+  none = answered-none Table (table-reads .front)
 
   two : numbersIn Table .tasks ≡ 2
   unfolding sample

@@ -1,5 +1,5 @@
 -- Planning in one call: what comes of its portions and of taking the plan, and what is put back. Assumes nothing.
-use Prim.Native.Nat.{ℕ, _+_, _-_, _≤_, min}
+use Prim.Native.Nat.{ℕ, _≤_, min}
 use native.Mathlib.Omega.{arith}
 use mathlib.Core.Path.{_≡_, refl, sym, ap, ap₂, subst, _∙_}
 use mathlib.Core.Logic.{_⊎_, inl, inr, _≢_}
@@ -13,21 +13,21 @@ use Rattle.answer.specs.Said.{Said, refused, filled}
 use Rattle.answer.specs.Order.{Row, row, first, NoneGiven}
 use Rattle.answer.proofs.Rows.{kind, first-append, none-first, none-append, append-none, stop}
 use Rattle.answer.proofs.Outcomes.{gone, unchanged, beyond}
-use Rattle.model.specs.Workspace.{cellCount, fill}
+use Rattle.model.specs.Workspace.{fill}
 use Rattle.model.proofs.Fills.{fill-length, fill-drop}
 use Rattle.model.proofs.Whole.{all-filled}
+use Rattle.model.specs.Taking.{takeRows}
 use Rattle.block.specs.Bytes.{Bytes}
 use Rattle.table.specs.Order.{tableRows}
 use Rattle.table.specs.Numbers.{numbersIn}
 use Rattle.table.specs.Lawful.{LawfulWith}
 use Rattle.table.proofs.Accepted.{lawful}
 use Rattle.options.specs.Tasks.{tasksOfTable, coresOfTable, cellsOfTable}
-use Rattle.options.proofs.Tables.{tasks-length, count-is, count-most}
+use Rattle.options.proofs.Tables.{cells-by-tasks, count-is, count-most}
 use Rattle.portions.specs.Portion.{ownRows, portionRows, ruleOf, FilledTo}
 use Rattle.taking.specs.declared.Taken.{Taken}
 use Rattle.taking.specs.Said.{said}
 use Rattle.taking.specs.Take.{cellOf, lentRows, takingRows, TookPlan}
-use Rattle.model.specs.Taking.{takeRows}
 use Rattle.demands.specs.Portions.{AllFilled}
 use Rattle.demands.specs.Whole.{wholeRows, PlanGiven, NoPlanFits, PlannedWhole}
 use Rattle.demands.proofs.Demand3.{right-answer}
@@ -87,8 +87,7 @@ module _ (bytes cells out : List ℕ) where
     -- each holds its defined value
     values : FilledTo bytes e (cellsOfTable bytes)
     values c low =
-        let n : cellCount (length (tasksOfTable bytes)) (coresOfTable bytes) ≡ cellsOfTable bytes =
-        ap (λ (k : ℕ). cellCount k (coresOfTable bytes)) (tasks-length (numbersIn bytes)) in
+        let n = cells-by-tasks bytes in
         ap (λ (x : List ℕ). getD x c 0) (a .holds ∙ ap (fill (ruleOf bytes) cells 0) (sym n))
         ∙ all-filled (tasksOfTable bytes) (coresOfTable bytes) cells (omega (arith, n, a .room)) c (omega (arith, n))
 

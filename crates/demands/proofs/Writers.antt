@@ -1,5 +1,5 @@
 -- What the writers write of lawful numbers, and what stands in a buffer that they have written. Assumes nothing.
-use Prim.Native.Nat.{ℕ, _+_, _-_, _≤_, _<_}
+use Prim.Native.Nat.{ℕ, _≤_, _<_}
 use native.Mathlib.Omega.{arith}
 use mathlib.Core.Path.{_≡_, refl, sym, ap, _∙_}
 use mathlib.Core.List.{List, _++_, append-nil}
@@ -56,15 +56,15 @@ header-wrote n m H block w = wrote (writeHeaderRows n m H) (headerBytes n m H) b
 
 -- ---- a task
 -- a task's rows and its block
-abbrev task-rows : ℕ → ℕ → TaskNumbers → ℕ → List Row
-task-rows H i t room = writeTaskRows H i (t .elasticity) (t .modes) (t .permitted) (figuresOf t) room
+abbrev rowsOf : ℕ → ℕ → TaskNumbers → ℕ → List Row
+rowsOf H i t room = writeTaskRows H i (t .elasticity) (t .modes) (t .permitted) (figuresOf t) room
 
-abbrev pub task-block : ℕ → TaskNumbers → List ℕ
-task-block i t = taskBytes i (t .elasticity) (t .modes) (t .permitted) (figuresOf t)
+abbrev pub bytesOf : ℕ → TaskNumbers → List ℕ
+bytesOf i t = taskBytes i (t .elasticity) (t .modes) (t .permitted) (figuresOf t)
 
 module _ (n m H i : ℕ) (t : TaskNumbers) (h : LawfulHeader n m H) (less : i < n) (l : LawfulTask t)
     (each : (j : ℕ) → j < t .modes → LawfulFigures H (t .figures j)) where
-  task-none : (room : ℕ) → 512 ≤ room → NoneGiven (task-rows H i t room)
+  task-none : (room : ℕ) → 512 ≤ room → NoneGiven (rowsOf H i t room)
   unfolding writeTaskRows
   task-none room r =
       let of-numbers = numberRows H i (t .elasticity) (t .modes) (t .permitted) (length (figuresOf t)) in
@@ -79,7 +79,7 @@ module _ (n m H i : ℕ) (t : TaskNumbers) (h : LawfulHeader n m H) (less : i < 
       let modes : NoneGiven of-modes = rw threes-flat (modes-pass 0 H (t .figures) 0 (t .modes) (λ k low high. each k (omega arith))) in
       append-none of-numbers (of-modes ++ roomRows room) numbers (append-none of-modes (roomRows room) modes (le-ltb room 512 r, tt))
 
-  pub task-made : HoldsTask i (t .elasticity) (t .modes) (t .permitted) (figuresOf t) (task-block i t)
+  pub task-made : HoldsTask i (t .elasticity) (t .modes) (t .permitted) (figuresOf t) (bytesOf i t)
   task-made =
       task-holds i (t .elasticity) (t .modes) (t .permitted) (figuresOf t)
       (record {
@@ -91,8 +91,8 @@ module _ (n m H i : ℕ) (t : TaskNumbers) (h : LawfulHeader n m H) (less : i < 
         three = length-flat (t .figures) 0 (t .modes);
       })
 
-  pub task-writes : (block : List ℕ) → block ≡ task-block i t → TaskWrites H i t block
-  task-writes block e = writes (task-rows H i t) (task-block i t) block task-none e
+  pub task-writes : (block : List ℕ) → block ≡ bytesOf i t → TaskWrites H i t block
+  task-writes block e = writes (rowsOf H i t) (bytesOf i t) block task-none e
 
-pub task-wrote : (H i : ℕ) (t : TaskNumbers) (block : List ℕ) → TaskWrites H i t block → block ≡ task-block i t
-task-wrote H i t block w = wrote (task-rows H i t) (task-block i t) block w
+pub task-wrote : (H i : ℕ) (t : TaskNumbers) (block : List ℕ) → TaskWrites H i t block → block ≡ bytesOf i t
+task-wrote H i t block w = wrote (rowsOf H i t) (bytesOf i t) block w

@@ -6,14 +6,14 @@ use mathlib.Core.Logic.{_⊎_}
 use mathlib.Core.List.{List, _++_}
 use lib.ListN.{length, drop, getD}
 use Rattle.answer.specs.Said.{header, task, figures}
+use Rattle.model.specs.Workspace.{advance}
 use Rattle.block.specs.Bytes.{Bytes}
 use Rattle.table.specs.Order.{headerBlock, taskBlock, tableSaid, askTaskSaid, askModeSaid}
 use Rattle.table.specs.Numbers.{TaskNumbers, figuresOf, Numbers}
 use Rattle.table.specs.Lawful.{Lawful}
+use Rattle.options.specs.Tasks.{cellsOfTable}
 use Rattle.writer.specs.declared.Written.the-variants.{Done}
 use Rattle.writer.specs.Order.{WroteHeader, WroteTask}
-use Rattle.model.specs.Workspace.{advance}
-use Rattle.options.specs.Tasks.{cellsOfTable}
 use Rattle.portions.specs.Portion.{ruleOf}
 use Rattle.portions.specs.Runs.{Step}
 

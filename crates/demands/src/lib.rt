@@ -44,7 +44,7 @@ fn lesser(a: usize, b: usize) -> usize
     if b < a { b } else { a }
 }
 
-// Portions of a budget from progress 0 until all cells are filled: until one fills none.
+// Portions of a budget, from progress 0 until one has budget left: then every cell is filled.
 fn fill_all(table: &[u8], cells: &mut [u64], budget: u32) -> Filling
     requires { ⌜ 1 ≤ budget ⌝ }
     ensures { λ r. ⌜ AllFilled (now (table .entry)) (now (cells .entry)) (said r) (now (cells .exit)) ⌝ }
@@ -55,7 +55,7 @@ fn fill_all(table: &[u8], cells: &mut [u64], budget: u32) -> Filling
         let Filling::Filled(next) = got else {
             return got;
         };
-        if next == progress {
+        if next - progress < budget {
             return got;
         }
         progress = next;

@@ -1,6 +1,7 @@
--- `best` is the least cost over the selections that fit: a lower bound, attained where it is not the mark, and falling in the column. Assumes nothing.
+-- `best` is the least cost over the selections that fit: a lower bound, attained where it is not the mark, and falling in the column.
+-- Assumes nothing.
 use mathlib.Core.Path.{_≡_, refl}
-use mathlib.Core.Logic.{inl, inr, _≢_, _↔_}
+use mathlib.Core.Logic.{inl, inr, _≢_}
 use mathlib.Core.List.{List, [], _∷_}
 use Prim.Native.Nat.{ℕ, _-_, _*_, _≤_}
 use native.Mathlib.Omega.{arith}
@@ -32,7 +33,7 @@ pub record Attained (ts : List Task) (c v : ℕ) : Type 0 where
   pub fits : totalCores ts with ≤ c
   pub costs : totalCost ts with ≡ v
 
-pub best-attained : (ts : List Task) (c : ℕ) → best ts c ≤ ceiling → Attained ts c (best ts c)
+best-attained : (ts : List Task) (c : ℕ) → best ts c ≤ ceiling → Attained ts c (best ts c)
 unfolding best totalCores totalCost onward
 best-attained [] c h = record { with = []; lawful = tt; fits = omega arith; costs = refl }
 best-attained (t ∷ ts) c h =
@@ -60,20 +61,7 @@ cost-le (t ∷ ts) (j ∷ s) p = omega (arith, cost-le ts s (p .1), p .0 j)
 pub cost-within : (ts : List Task) (s : List ℕ) → Limits ts → totalCost ts s ≤ ceiling
 cost-within ts s l = omega (arith, cost-le ts s (l .priced))
 
--- not the mark exactly where some selection fits, and then the least cost over those
-pub best-mark : (ts : List Task) (c : ℕ) → Limits ts → (best ts c ≢ mark) ↔ ((s : List ℕ) × Lawful ts s × Fits ts c s)
-best-mark ts c l = (there, back)
-  where
-    there : best ts c ≢ mark → (s : List ℕ) × Lawful ts s × Fits ts c s
-    there n = go (best-sound ts c)
-      where
-        go : Sound (best ts c) → (s : List ℕ) × Lawful ts s × Fits ts c s
-        go (inl k) = let a = best-attained ts c k in (a .with, a .lawful, a .fits)
-        go (inr e) = absurd (n e)
-
-    back : (s : List ℕ) × Lawful ts s × Fits ts c s → best ts c ≢ mark
-    back x e = omega (arith, best-low ts (x .0) c (x .1) (x .2) (cost-within ts (x .0) l), cost-within ts (x .0) l)
-
+-- where it is not the mark it is the least cost over the selections that fit
 pub record IsLeast (ts : List Task) (c v : ℕ) : Type 0 where
   pub attained : Attained ts c v
   pub low : (s : List ℕ) → Lawful ts s → Fits ts c s → v ≤ totalCost ts s

@@ -11,13 +11,9 @@ use borrow.Author.Tests.{leb-true, leb-false, eqb-true, eq-eqb}
 use lib.ListN.{length}
 use Rattle.answer.proofs.Bools.{clash}
 use Rattle.model.specs.Plan.{Option, Task, option}
-use Rattle.model.specs.Cells.{mark, ceiling, may, onward, least}
+use Rattle.model.specs.Cells.{mark, ceiling, may, onward, offered, least}
 use Rattle.model.specs.Taking.{firstOf, keeps, lowest}
 use Rattle.model.proofs.Sums.{Sound, plus-sound, may-yes, may-true}
-
--- what one mode offers to the least
-abbrev offer : Option → (ℕ → ℕ) → ℕ → ℕ
-offer o next c = cond (may o c) (onward o next c) mark
 
 min-sound : (a b : ℕ) → Sound a → Sound b → Sound (min a b)
 min-sound a b (inl h) k = inl (omega arith)
@@ -28,7 +24,7 @@ onward-sound : (o : Option) (next : ℕ → ℕ) (c : ℕ) → Sound (onward o n
 unfolding onward
 onward-sound o next c = plus-sound (o .cost) (next (c - o .need))
 
-offer-sound : (o : Option) (next : ℕ → ℕ) (c : ℕ) → Sound (offer o next c)
+offer-sound : (o : Option) (next : ℕ → ℕ) (c : ℕ) → Sound (offered o next c)
 offer-sound o next c = go (may o c)
   where
     go : (b : Bool) → Sound (cond b (onward o next c) mark)
@@ -39,7 +35,7 @@ offer-sound o next c = go (may o c)
 pub least-sound : (t : Task) (next : ℕ → ℕ) (c : ℕ) → Sound (least t next c)
 unfolding least
 least-sound [] next c = inr refl
-least-sound (o ∷ os) next c = min-sound (offer o next c) (least os next c) (offer-sound o next c) (least-sound os next c)
+least-sound (o ∷ os) next c = min-sound (offered o next c) (least os next c) (offer-sound o next c) (least-sound os next c)
 
 -- a lower bound
 pub least-low : (t : Task) (next : ℕ → ℕ) (c j : ℕ) → j < length t → T (option t j .permitted) → option t j .need ≤ c
@@ -47,10 +43,10 @@ pub least-low : (t : Task) (next : ℕ → ℕ) (c j : ℕ) → j < length t →
 unfolding least
 least-low [] next c j h p n = absurd (not-suc-le-zero h)
 least-low (o ∷ os) next c zero h p n =
-    let e : offer o next c ≡ onward o next c = simp (may-yes o c p n) in
-    omega (arith, min-le-left (offer o next c) (least os next c))
+    let e : offered o next c ≡ onward o next c = simp (may-yes o c p n) in
+    omega (arith, min-le-left (offered o next c) (least os next c))
 least-low (o ∷ os) next c (suc j) h p n =
-    le-trans (min-le-right (offer o next c) (least os next c)) (least-low os next c j (le-of-suc-le-suc h) p n)
+    le-trans (min-le-right (offered o next c) (least os next c)) (least-low os next c j (le-of-suc-le-suc h) p n)
 
 -- attained, where it is not the mark
 pub record Found (t : Task) (next : ℕ → ℕ) (c v : ℕ) : Type 0 where
@@ -71,7 +67,7 @@ min-pick a b = go (leb a b) refl
     go true e = let h = leb-true a b e in inl (omega arith)
     go false e = let h = leb-false a b e in inr (omega arith)
 
-offer-taken : (o : Option) (next : ℕ → ℕ) (c : ℕ) → offer o next c ≤ ceiling → may o c ≡ true
+offer-taken : (o : Option) (next : ℕ → ℕ) (c : ℕ) → offered o next c ≤ ceiling → may o c ≡ true
 offer-taken o next c = go (may o c)
   where
     go : (b : Bool) → cond b (onward o next c) mark ≤ ceiling → b ≡ true
@@ -81,13 +77,13 @@ offer-taken o next c = go (may o c)
 pub least-found : (t : Task) (next : ℕ → ℕ) (c : ℕ) → least t next c ≤ ceiling → Found t next c (least t next c)
 unfolding least
 least-found [] next c h = absurd (omega arith)
-least-found (o ∷ os) next c h = go (min-pick (offer o next c) (least os next c)) (least-found os next c)
+least-found (o ∷ os) next c h = go (min-pick (offered o next c) (least os next c)) (least-found os next c)
   where
-    go : Pick (offer o next c) (least os next c) → (least os next c ≤ ceiling → Found os next c (least os next c))
-        → Found (o ∷ os) next c (min (offer o next c) (least os next c))
+    go : Pick (offered o next c) (least os next c) → (least os next c ≤ ceiling → Found os next c (least os next c))
+        → Found (o ∷ os) next c (min (offered o next c) (least os next c))
     go (inl k) ih =
         let e : may o c ≡ true = offer-taken o next c (omega arith) in
-        let x : offer o next c ≡ onward o next c = simp e in
+        let x : offered o next c ≡ onward o next c = simp e in
         let m = may-true o c e in
         record { at = zero; there = omega arith; allowed = m .0; small = m .1; same = sym x ∙ sym (k .1) }
     go (inr k) ih =

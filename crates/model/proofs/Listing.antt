@@ -3,7 +3,7 @@ use mathlib.Core.Path.{_≡_, refl, ap, sym}
 use mathlib.Core.Logic.{_⊎_, inl, inr, _↔_}
 use mathlib.Core.Bool.{Bool, true, false, cond, _&&_, _||_}
 use mathlib.Core.List.{List, [], _∷_, _++_, map}
-use Prim.Native.Nat.{ℕ, zero, suc, _+_, _-_, _<_}
+use Prim.Native.Nat.{ℕ, zero, suc, _+_, _<_}
 use native.Mathlib.Nat.{not-suc-le-zero, le-of-suc-le-suc, zero-add}
 use native.Mathlib.Omega.{arith}
 use lib.Dec.{T, leb, ltb, eqb}
@@ -16,7 +16,6 @@ use Rattle.model.specs.Listing.{numbers, each, selections, then, lower, 
 use Rattle.model.proofs.Order.{one-plan, as-good-trans}
 
 -- ---- the tests say what the order says
-
 then-yes : {A : Type 0} (x y : ℕ) (c : Bool) → (c ≡ true → A) → then x y c ≡ true → Then x y A
 unfolding then
 then-yes {A} x y c f e = go (ltb x y) (eqb x y) refl refl e
@@ -60,7 +59,6 @@ lower-refl [] = tt
 lower-refl (j ∷ s) = inr (refl, lower-refl s)
 
 -- ---- the listing has each lawful selection, and no other
-
 abbrev In : {A : Type 0} → A → List A → Type 0
 In a [] = ⊥
 In a (b ∷ l) = (a ≡ b) ⊎ In a l
@@ -168,7 +166,6 @@ lawful-listed (t ∷ ts) s h =
     rw (x .is, e) (n .there, n .allowed, lawful-listed ts (x .tail) (x .tail-in))
 
 -- ---- the best of a list
-
 abbrev Right : List Task → ℕ → List (List ℕ) → Listed → Type 0
 Right ts m ss none = (r : List ℕ) → In r ss → Fits ts m r → ⊥
 Right ts m ss (some s) = In s ss × Fits ts m s × ((r : List ℕ) → In r ss → Fits ts m r → AsGood ts s r)
@@ -221,7 +218,6 @@ best-of-right ts m (s ∷ ss) = go (leb (totalCores ts s) m) refl (best-of-right
     go false e h = skip-right ts m s ss (bestOf ts m ss) (leb-false (totalCores ts s) m e) h
 
 -- ---- the listing is the plan
-
 -- what the listing has to find
 abbrev Answers : List Task → ℕ → Listed → Type 0
 Answers ts m none = NothingFits ts m

@@ -32,7 +32,7 @@ lower-trans (i ∷ r) [] t a b = absurd a
 lower-trans (i ∷ r) (j ∷ s) [] a b = absurd b
 lower-trans (i ∷ r) (j ∷ s) (k ∷ t) a b = then-trans i j k (lower-trans r s t) a b
 
-pub as-good-both : (ts : List Task) (s s' : List ℕ) → AsGood ts s s' → AsGood ts s' s → s ≡ s'
+as-good-both : (ts : List Task) (s s' : List ℕ) → AsGood ts s s' → AsGood ts s' s → s ≡ s'
 as-good-both ts s s' a b =
     let p = then-both (totalCost ts s) (totalCost ts s') a b in
     let c = then-both (totalCores ts s) (totalCores ts s') (p .1) (p .2) in

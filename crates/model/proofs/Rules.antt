@@ -12,10 +12,10 @@ use Rattle.answer.proofs.Bools.{and-true, or-true}
 use Rattle.model.specs.Rules.{roundedUp, oneCore, moreCores, meets, coresSaid}
 
 -- how a mode meets its period
-abbrev pub Meets : ℕ → ℕ → ℕ → Type 0
+abbrev Meets : ℕ → ℕ → ℕ → Type 0
 Meets C L T = ((C ≡ L) × (L ≤ T)) ⊎ ((L < T) × (L < C))
 
-pub meets-fact : (C L T : ℕ) → meets C L T ≡ true → Meets C L T
+meets-fact : (C L T : ℕ) → meets C L T ≡ true → Meets C L T
 meets-fact C L T e =
     ⊎-elim (λ h. let r = and-true (eqb C L) (leb L T) h in inl (eqb-true C L (r .0), leb-true L T (r .1)))
     (λ h. let r = and-true (ltb L T) (ltb L C) h in inr (ltb-true L T (r .0), ltb-true L C (r .1)))

@@ -19,7 +19,7 @@ pub plus-above : (a b : ℕ) → ceiling < a + b → plus a b ≡ mark
 unfolding plus
 plus-above a b h = simp (lt-leb (a + b) ceiling h)
 
--- which of the two it is, by the sum's own test
+-- a number is within the ceiling or above it
 pub within : (x : ℕ) → (x ≤ ceiling) ⊎ (ceiling < x)
 within x = go (leb x ceiling) refl
   where
@@ -35,7 +35,7 @@ pub reads-above : (x : ℕ) → ceiling < x → reads x ≡ mark
 unfolding reads
 reads-above x h = simp (lt-leb x ceiling h)
 
--- a number is within the ceiling or it is the mark
+-- a number that reads as itself: within the ceiling, or the mark
 abbrev pub Sound : ℕ → Type 0
 Sound x = (x ≤ ceiling) ⊎ (x ≡ mark)
 

@@ -1,6 +1,6 @@
 -- Over cells that hold their defined values the answer is right, it is never 18, and only one answer is right. Assumes nothing.
 use mathlib.Core.Path.{_≡_, refl, ap, ap₂, sym, _∙_}
-use mathlib.Core.Logic.{_⊎_, inl, inr, ⊎-elim, _↔_}
+use mathlib.Core.Logic.{inl, inr, ⊎-elim, _↔_}
 use mathlib.Core.Bool.{Bool, true, false, cond, not}
 use mathlib.Core.List.{List, [], _∷_}
 use Prim.Native.Nat.{ℕ, suc, _-_}
@@ -10,6 +10,7 @@ use lib.ListN.{length}
 use borrow.Author.Tests.{eqb-true, eqb-false, lt-ltb}
 use Rattle.answer.specs.Said.{Said, refused, plan}
 use Rattle.answer.proofs.Bools.{clash}
+use Rattle.answer.proofs.Rows.{plan-refused}
 use Rattle.model.specs.Plan.{Task, option, Lawful, NothingFits, Limits, totalCores, totalCost}
 use Rattle.model.specs.Cells.{mark}
 use Rattle.model.specs.Taking.{lowest, used, trace, allKeep, takeRows, takeSaid, takeModes, Holds, Right}
@@ -44,14 +45,11 @@ module _ (rows : ℕ → ℕ → ℕ) (ts : List Task) (m : ℕ) (l : Limits ts)
   -- 14 exactly when no selection fits
   pub take-none : (takeSaid rows ts m ≡ refused 14 0) ↔ NothingFits ts m
   take-none =
-      (λ e. ⊎-elim (λ x. absurd (told e (x .1))) (λ x. x .0) take-right, λ n. ⊎-elim (λ x. absurd (n _ (x .0 .lawful) (x .0 .fits))) (λ x. x .1) take-right)
-    where
-      told : {answer : Said} {k u v : ℕ} → answer ≡ refused k 0 → answer ≡ plan u v → ⊥
-      told e f = let z : _≡_ {A = ℕ} 0 1 = cc in omega arith
+      (λ e. ⊎-elim (λ x. plan-refused (x .1) e) (λ x. x .0) take-right, λ n. ⊎-elim (λ x. absurd (n _ (x .0 .lawful) (x .0 .fits))) (λ x. x .1) take-right)
 
   -- never 18
   pub take-never-18 : takeSaid rows ts m ≡ refused 18 0 → ⊥
-  take-never-18 e = ⊎-elim (λ x. let z : _≡_ {A = ℕ} 0 1 = cc in omega arith) (λ x. let z : _≡_ {A = ℕ} 18 14 = cc in omega arith) take-right
+  take-never-18 e = ⊎-elim (λ x. plan-refused (x .1) e) (λ x. let z : _≡_ {A = ℕ} 18 14 = cc in omega arith) take-right
 
 -- two right answers are equal
 pub right-one : (ts : List Task) (m : ℕ) (x y : Said) (s s' : List ℕ) → Right ts m x s → Right ts m y s' → x ≡ y

@@ -20,7 +20,6 @@ use Rattle.model.proofs.Best.{best-sound, best-low, best-falls, cost-wi
 use Rattle.model.proofs.Chosen.{pick, chosen, chosen-right, chosen-lower}
 
 -- ---- the smallest column
-
 pub record Searched (f : ℕ → Bool) (c k r : ℕ) : Type 0 where
   pub from : c ≤ r
   pub upto : r ≤ c + k
@@ -41,14 +40,13 @@ searched f c (suc k) = go (f c) refl (searched f (suc c) k)
         at x a b (yes q) = rw q e
         at x a b (no n) = r .before x (omega arith) b
 
-pub search-cong : (f g : ℕ → Bool) (c k : ℕ) → ((x : ℕ) → x < c + k → f x ≡ g x) → searchFrom f c k ≡ searchFrom g c k
+search-cong : (f g : ℕ → Bool) (c k : ℕ) → ((x : ℕ) → x < c + k → f x ≡ g x) → searchFrom f c k ≡ searchFrom g c k
 unfolding searchFrom
 search-cong f g c zero h = refl
 search-cong f g c (suc k) h =
     ap₂ (λ (b : Bool) (y : ℕ). cond b c y) (h c (omega arith)) (search-cong f g (suc c) k (λ x a. h x (omega arith)))
 
 -- ---- the trace over rows is the trace over the defined values
-
 abbrev From : (ℕ → ℕ → ℕ) → ℕ → List Task → ℕ → Type 0
 From rows i ts m = (k c : ℕ) → k ≤ length ts → c ≤ m → rows (i + k) c ≡ best (drop k ts) c
 
@@ -66,7 +64,6 @@ trace-same rows i (t ∷ ts) m c h a =
     ∙ ap (λ (r : List ℕ). pick t ts c ∷ r) (trace-same rows (suc i) ts m (c - option t (pick t ts c) .need) (omega arith) next)
 
 -- ---- the smallest column of the defined values
-
 pub used-le : (row : ℕ → ℕ) (m : ℕ) → used row m ≤ m
 used-le row m = omega (arith, (searched (λ c. eqb (row c) (row m)) 0 m) .upto)
 
@@ -90,7 +87,6 @@ used-cong f g m h =
     search-cong (λ c. eqb (f c) (f m)) (λ c. eqb (g c) (g m)) 0 m (λ x a. ap₂ eqb (h x (omega arith)) (h m (omega arith)))
 
 -- ---- the plan
-
 pub record Took (ts : List Task) (m : ℕ) (s : List ℕ) (u v : ℕ) : Type 0 where
   pub plan : IsPlan ts m s
   pub uses : totalCores ts s ≡ u

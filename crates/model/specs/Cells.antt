@@ -29,10 +29,14 @@ may o c = (o .permitted) && leb (o .need) c
 unfoldable pub onward : Option → (ℕ → ℕ) → ℕ → ℕ
 onward o next c = plus (o .cost) (next (c - o .need))
 
--- the least over such modes; the mark if there is none
+-- what a mode offers there: the mark if it is none of those
+abbrev pub offered : Option → (ℕ → ℕ) → ℕ → ℕ
+offered o next c = cond (may o c) (onward o next c) mark
+
+-- the least over the modes; the mark if none may be chosen
 unfoldable pub least : Task → (ℕ → ℕ) → ℕ → ℕ
 least [] next c = mark
-least (o ∷ os) next c = min (cond (may o c) (onward o next c) mark) (least os next c)
+least (o ∷ os) next c = min (offered o next c) (least os next c)
 
 -- the cell at column c of the row that begins the tasks ts: row n is all 0
 unfoldable pub best : List Task → ℕ → ℕ

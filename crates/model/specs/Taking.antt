@@ -20,7 +20,8 @@ searchFrom f c (suc k) = cond (f c) c (searchFrom f (suc c) k)
 abbrev pub used : (ℕ → ℕ) → ℕ → ℕ
 used row₀ m = searchFrom (λ c. eqb (row₀ c) (row₀ m)) 0 m
 
--- a mode keeps the cost v of the cell at column c: it needs at most c cores, and its cost plus the next row's cell equals v
+-- a permitted mode keeps the cost v of the cell at column c: it needs at most c cores, and its cost plus the next row's cell, at c less
+-- those cores, equals v
 unfoldable pub keeps : (ℕ → ℕ) → ℕ → ℕ → Option → Bool
 keeps next c v o = may o c && eqb (onward o next c) v
 

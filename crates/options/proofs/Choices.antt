@@ -7,12 +7,12 @@ use borrow.Author.Tests.{lt-leb}
 use Rattle.answer.proofs.Bools.{clash}
 use Rattle.model.specs.Rules.{meets}
 use Rattle.model.specs.Turns.{eachFrom}
-use Rattle.model.specs.Plan.{Option, option}
-use Rattle.model.specs.Cells.{mark, may, least}
+use Rattle.model.specs.Plan.{Option}
+use Rattle.model.specs.Cells.{mark, may, offered, least}
 use Rattle.model.specs.Taking.{keeps}
 use Rattle.block.specs.Tests.{allows}
+use Rattle.cells.specs.Rows.{held, heldTask}
 use Rattle.table.specs.Numbers.{TaskNumbers}
-use Rattle.cells.specs.Rows.{held, heldTask, offered}
 use Rattle.options.specs.Tasks.{coresAt, costAt, optionOf, taskOf}
 use Rattle.options.specs.Arrays.{needAt, needsOf, costsOf, AllMeet}
 
@@ -21,25 +21,25 @@ abbrev pub Meets : TaskNumbers → ℕ → Type 0
 Meets t j = meets (t .figures j .work) (t .figures j .span) (t .figures j .period) ≡ true
 
 module _ (H : ℕ) (t : TaskNumbers) (j : ℕ) (meeting : Meets t j) (next : ℕ → ℕ) (c : ℕ) (low : c < mark) where
-  abbrev as-held : Option
-  as-held = held (needAt t j) (costAt H t j)
+  abbrev asHeld : Option
+  asHeld = held (needAt t j) (costAt H t j)
 
   -- by its bit: permitted, it is the option itself; not permitted, neither is chosen
   by-bit : {A : Type 0} (f : Option → A) → ((o : Option) → may o c ≡ false → (x : Option) → may x c ≡ false → f o ≡ f x)
-      → (b : Bool) → allows (t .permitted) j ≡ b → f as-held ≡ f (optionOf H t j)
+      → (b : Bool) → allows (t .permitted) j ≡ b → f asHeld ≡ f (optionOf H t j)
   unfolding may
   by-bit f same true e = rw (e, meeting)
-  by-bit f same false e = same as-held (rw e (lt-leb mark c low)) (optionOf H t j) (rw e)
+  by-bit f same false e = same asHeld (rw e (lt-leb mark c low)) (optionOf H t j) (rw e)
 
-  held-offered : offered as-held next c ≡ offered (optionOf H t j) next c
+  held-offered : offered asHeld next c ≡ offered (optionOf H t j) next c
   held-offered = by-bit (λ o. offered o next c) (λ o e x g. rw (e, g)) (allows (t .permitted) j) refl
 
-  pub held-keeps : (v : ℕ) → keeps next c v as-held ≡ keeps next c v (optionOf H t j)
+  pub held-keeps : (v : ℕ) → keeps next c v asHeld ≡ keeps next c v (optionOf H t j)
   unfolding keeps
   held-keeps v = by-bit (keeps next c v) (λ o e x g. rw (e, g)) (allows (t .permitted) j) refl
 
   -- where it is kept, the need held is the mode's cores
-  pub held-need : (v : ℕ) → keeps next c v as-held ≡ true → needAt t j ≡ optionOf H t j .need
+  pub held-need : (v : ℕ) → keeps next c v asHeld ≡ true → needAt t j ≡ optionOf H t j .need
   unfolding keeps may
   held-need v k = go (allows (t .permitted) j) refl
     where

@@ -15,7 +15,7 @@ use Rattle.model.proofs.Bounds.{demand-within, cost-most}
 use Rattle.table.specs.Order.{blockAt, taskBlock}
 use Rattle.table.specs.Numbers.{TaskNumbers, taskNumbersIn, Numbers, numbersIn}
 use Rattle.table.specs.Lawful.{Lawful, LawfulWith}
-use Rattle.options.specs.Tasks.{demandAt, optionOf, taskOf, tasksOf, tasksOfTable, cellsOfTable}
+use Rattle.options.specs.Tasks.{demandAt, optionOf, taskOf, tasksOf, tasksOfTable, coresOfTable, cellsOfTable}
 use Rattle.options.specs.Arrays.{sixteen, InLimits, AllMeet}
 
 -- ---- the tasks of a table, and the modes of a task
@@ -42,7 +42,7 @@ option-past : (H : ℕ) (t : TaskNumbers) (j : ℕ) → t .modes ≤ j → optio
 option-past H t j h = List·getD-eq-default (taskOf H t) absent (rw (task-length H t) h)
 
 -- ---- their limits
-pub in-limits : (t : Numbers) (i : ℕ) → Lawful t → i < t .tasks → InLimits (t .common) (t .task i)
+in-limits : (t : Numbers) (i : ℕ) → Lawful t → i < t .tasks → InLimits (t .common) (t .task i)
 in-limits t i l h =
     record {
       common = l .header .common-high;
@@ -50,7 +50,7 @@ in-limits t i l h =
       work = λ j below. l .mode i j h below .work-high;
     }
 
-pub all-meet : (t : Numbers) (i : ℕ) → Lawful t → i < t .tasks → AllMeet (t .task i)
+all-meet : (t : Numbers) (i : ℕ) → Lawful t → i < t .tasks → AllMeet (t .task i)
 all-meet t i l h j below = l .mode i j h below .meeting
 
 -- within them a demand is at most 64 times the largest common period
@@ -83,7 +83,10 @@ limits t l =
           (λ k j low high. cost-limit (t .common) (t .task k) j (in-limits t k l (omega arith)));
     }
 
--- ---- the cells of its workspace, by the numbers that its header gave
+-- ---- the cells of its workspace, by the tasks that the planner sees, and by the numbers that its header gave
+pub cells-by-tasks : (bytes : List ℕ) → cellCount (length (tasksOfTable bytes)) (coresOfTable bytes) ≡ cellsOfTable bytes
+cells-by-tasks bytes = ap (λ (k : ℕ). cellCount k (coresOfTable bytes)) (tasks-length (numbersIn bytes))
+
 module _ {bytes : List ℕ} {n m H : ℕ} (w : LawfulWith bytes n m H) where
   pub count-is : cellsOfTable bytes ≡ (n + 1) * (m + 1)
   unfolding cellCount

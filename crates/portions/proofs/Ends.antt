@@ -9,12 +9,11 @@ use Rattle.answer.specs.Said.{Said, refused, filled}
 use Rattle.answer.specs.Order.{Row, row, Outcome, NoneGiven}
 use Rattle.answer.proofs.Rows.{kind, none-append, none-first}
 use Rattle.answer.proofs.Outcomes.{goes, behind, given, gone}
-use Rattle.model.specs.Workspace.{cellCount, advance, portion}
+use Rattle.model.specs.Workspace.{advance, portion}
 use Rattle.model.proofs.Values.{fill-filled}
 use Rattle.table.specs.Order.{tableRows}
-use Rattle.table.specs.Numbers.{numbersIn}
 use Rattle.options.specs.Tasks.{tasksOfTable, coresOfTable, cellsOfTable}
-use Rattle.options.proofs.Tables.{tasks-length}
+use Rattle.options.proofs.Tables.{cells-by-tasks}
 use Rattle.portions.specs.declared.Filling.{Filling}
 use Rattle.portions.specs.Said.{said}
 use Rattle.portions.specs.Portion.{ownRows, portionRows, ruleOf, FilledTo, Portioned}
@@ -70,8 +69,7 @@ module _ (bytes before : List ℕ) (p b : ℕ) where
   -- the cells below it hold their defined values where those below the progress given did
   counted : (q : ℕ) (e : List ℕ) → Went q e → FilledTo bytes before p → FilledTo bytes e q
   counted q e w f c low =
-      let n : cellCount (length (tasksOfTable bytes)) (coresOfTable bytes) ≡ cellsOfTable bytes =
-      ap (λ (k : ℕ). cellCount k (coresOfTable bytes)) (tasks-length (numbersIn bytes)) in
+      let n = cells-by-tasks bytes in
       ap (λ (x : List ℕ). getD x c 0) (w .cells)
       ∙ fill-filled (tasksOfTable bytes) (coresOfTable bytes) before p (advance (cellsOfTable bytes) p b - p) f
       (omega (arith, n, w .within, w .progress)) (omega (arith, n, w .room)) c (omega (arith, w .within, w .progress))

@@ -35,7 +35,7 @@ fn refuse(number: u8) -> Filling
     Filling::Refused(Refusal { number, at: 0 })
 }
 
-// The lesser of progress plus budget and the number of cells, with no sum that could pass 32 bits.
+// The smaller of progress plus budget and the number of cells, with no sum that could pass 32 bits.
 fn advance(count: u32, progress: u32, budget: u32) -> u32
     requires { ⌜ progress ≤ count ⌝ }
     ensures { λ r. ⌜ r ≡ advanceTo count progress budget ⌝ }
@@ -68,7 +68,7 @@ fn task_run(
     to: usize,
 )
     requires { ⌜ InLimits common (taskNumbersIn (now block)) × AllMeet (taskNumbersIn (now block)) ⌝ }
-    requires { ⌜ (next ≤ start) × (start ≤ from) × (from ≤ to) × (to ≤ start + 65) × (to ≤ length (now cells)) ⌝ }
+    requires { ⌜ (start ≤ from) × (from ≤ to) × (to ≤ length (now cells)) × (to ≤ start + 65) × (next + (to - start) ≤ start) ⌝ }
     ensures { λ _. ⌜ now (cells .exit) ≡ fill (taskRow (taskOf common (taskNumbersIn (now (block .entry)))) next start) (now (cells .entry)) from (to - from) ⌝ }
 {
     let count = modes(block);

@@ -10,8 +10,8 @@ use Rattle.answer.specs.Said.{header}
 use Rattle.answer.specs.Order.{row, NoneGiven}
 use Rattle.answer.proofs.Rows.{none-append, none-first, first-none}
 use Rattle.answer.proofs.Elses.{passed, answered}
-use Rattle.block.specs.Bytes.{Bytes}
 use Rattle.model.specs.Turns.{eachFrom}
+use Rattle.block.specs.Bytes.{Bytes}
 use Rattle.block.specs.Layout.{tasksIn, coresIn, commonIn, modesIn, taskNumberIn, figuresIn}
 use Rattle.block.specs.Tests.{figureRows, modesRows}
 use Rattle.block.proofs.Laid.{number-small}
@@ -87,12 +87,13 @@ module _ (bytes : List ℕ) where
         };
       }
 
+  -- where a header is answered no row is given
+  pub answered-none : {n m H : ℕ} → tableSaid bytes ≡ header n m H → NoneGiven (tableRows bytes)
+  answered-none e = first-none (tableRows bytes) (headerSaid (headerBlock bytes)) (λ z. omega (arith, z)) (sym e)
+
   -- a table is accepted exactly where no row is given
   pub accepted-none : (tableSaid bytes ≡ headerSaid (headerBlock bytes)) ↔ NoneGiven (tableRows bytes)
-  accepted-none = (
-    λ e. first-none (tableRows bytes) (headerSaid (headerBlock bytes)) (λ z. omega (arith, z)) (sym e),
-    none-first (tableRows bytes) (headerSaid (headerBlock bytes)),
-  )
+  accepted-none = (answered-none, none-first (tableRows bytes) (headerSaid (headerBlock bytes)))
 
 -- for a caller past its `let .. else` on `check`: the table is lawful, and the header's numbers are the table's
 accepted : (bytes : List ℕ) (r : Reading) → Bytes bytes → tag r ≡ 1 → said r ≡ tableSaid bytes

@@ -8,13 +8,13 @@ use Rattle.answer.specs.Order.{first}
 use Rattle.block.specs.Bytes.{value, number, weighed, checkOf}
 use Rattle.table.specs.Order.{headerRows, taskRows}
 
-abbrev zero-block : List ℕ
-zero-block = replicate 512 0
+abbrev zeroBlock : List ℕ
+zeroBlock = replicate 512 0
 
-pub zero-header : (s : Said) → first (headerRows zero-block) s ≡ refused 3 0
+pub zero-header : (s : Said) → first (headerRows zeroBlock) s ≡ refused 3 0
 unfolding value number weighed checkOf
 zero-header s = refl
 
-pub zero-task : (i at : ℕ) (s : Said) → first (taskRows i at zero-block) s ≡ refused 3 at
+pub zero-task : (i at : ℕ) (s : Said) → first (taskRows i at zeroBlock) s ≡ refused 3 at
 unfolding value number weighed checkOf
 zero-task i at s = refl

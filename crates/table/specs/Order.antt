@@ -7,8 +7,8 @@ use lib.Dec.{eqb, leb}
 use lib.ListN.{length, take, drop}
 use Rattle.answer.specs.Said.{Said, header, task, figures}
 use Rattle.answer.specs.Order.{Row, row, first}
-use Rattle.block.specs.Bytes.{checkOf}
 use Rattle.model.specs.Turns.{eachFrom}
+use Rattle.block.specs.Bytes.{checkOf}
 use Rattle.block.specs.Layout.{kindIn, checkIn, editionIn, tasksIn, coresIn, commonIn, headerUnused, elasticityIn, modesIn, permittedIn, taskNumberIn, taskUnused, Figures, figuresIn}
 use Rattle.block.specs.Tests.{wrongLimits, wrongShape, wrongPermitted, modesRows}
 

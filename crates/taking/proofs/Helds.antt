@@ -11,9 +11,9 @@ use Rattle.model.specs.Taking.{keeps}
 use Rattle.model.specs.Turns.{eachFrom}
 use Rattle.model.proofs.Turns.{each-length, each-at}
 use Rattle.block.specs.Layout.{modesIn}
+use Rattle.cells.specs.Rows.{held}
 use Rattle.table.specs.Numbers.{TaskNumbers, taskNumbersIn}
 use Rattle.table.specs.Lawful.{LawfulWith}
-use Rattle.cells.specs.Rows.{held}
 use Rattle.options.specs.Tasks.{costAt, taskOf, tasksOfTable}
 use Rattle.options.specs.Arrays.{needAt, sixteen, needsOf, costsOf, InLimits, AllMeet}
 use Rattle.options.proofs.Choices.{held-keeps, held-need}
@@ -23,6 +23,7 @@ use Rattle.options.proofs.Tables.{task-length, option-at, block-limits, block-m
 abbrev pub heldAt : List ℕ → List ℕ → ℕ → Option
 heldAt need cost k = held (getD need k 0) (getD cost k 0)
 
+-- the task as the arrays hold it: as many modes, each keeping a cell's cost where the task's own does, and then with its cores
 pub record HeldAs (t : Task) (count : ℕ) (need cost : List ℕ) : Type 0 where
   pub many : length t ≡ count
   pub few : count ≤ 16

@@ -1,7 +1,7 @@
-pub mod Copies
 pub mod Answers
-mod Exits
-mod Helds
-mod Searches
+pub mod Copies
+pub mod Searches
+pub mod Helds
+pub mod Tracing
+pub mod Exits
 pub mod Settled
-mod Tracing

@@ -12,11 +12,11 @@ use lib.Seq.{take-suc-set, append-snoc}
 use Rattle.model.specs.Plan.{Task, option}
 use Rattle.model.specs.Workspace.{cellIn, cellCount}
 use Rattle.model.specs.Taking.{keeps, lowest, trace, allKeep}
+use Rattle.cells.specs.Rows.{rowFrom}
 use Rattle.table.specs.Numbers.{numbersIn}
 use Rattle.table.specs.Lawful.{LawfulWith}
 use Rattle.options.specs.Tasks.{tasksOfTable}
 use Rattle.options.proofs.Tables.{tasks-length}
-use Rattle.cells.specs.Rows.{rowFrom}
 use Rattle.taking.specs.Take.{cellOf}
 use Rattle.taking.proofs.Searches.{first-is, first-past, trace-more, keep-more}
 use Rattle.taking.proofs.Helds.{heldAt, HeldAs}

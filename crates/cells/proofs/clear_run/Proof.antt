@@ -6,8 +6,8 @@ use borrow.Author.Needs.{needs}
 use lib.ListN.{length, length-set}
 use denote.Ref.{now}
 use Rattle.model.specs.Workspace.{fill}
-use Rattle.cells.specs.Rows.{lastRow}
 use Rattle.model.proofs.Fills.{fill-none, fill-turn, fill-done}
+use Rattle.cells.specs.Rows.{lastRow}
 use Rattle.cells.proofs.clear_run.Statement.{statement}
 use Rattle.cells.proofs.clear_run.Tie as tie
 

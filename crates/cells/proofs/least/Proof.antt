@@ -1,29 +1,31 @@
 -- `cells::least` meets its contract. The invariant: the least so far and the least of the modes left give the least of all.
 -- Assumes nothing.
-use mathlib.Core.Path.{_≡_}
-use Prim.Native.Nat.{_≤_, _-_, min}
+use mathlib.Core.Path.{_≡_, ap, _∙_}
+use Prim.Native.Nat.{_+_, _≤_, _-_, min}
 use native.Mathlib.Omega.{arith}
 use borrow.Author.Needs.{needs}
 use lib.ListN.{length}
 use denote.Ref.{now}
-use Rattle.model.specs.Cells.{mark}
+use Rattle.model.specs.Cells.{ceiling, reads}
+use Rattle.model.proofs.Sums.{reads-above}
 use Rattle.cells.specs.Rows.{rowFrom}
 use Rattle.cells.proofs.Offers.{leastFrom, least-le, least-step, least-end}
+use Rattle.cells.proofs.Held.{reads-min}
 use Rattle.cells.proofs.least.Statement.{statement}
 use Rattle.cells.proofs.least.Tie as tie
 
 abbrev Inv-loop : tie.InvT-loop
-Inv-loop need cost cells next column best₀ j₀ best j =
-    (j ≤ length need) × (best ≤ mark)
-    × (min best (leastFrom need cost j (rowFrom cells next) column) ≡ leastFrom need cost 0 (rowFrom cells next) column)
+Inv-loop need cost row column best₀ j₀ best j =
+    (j ≤ length need)
+    × (min (reads best) (leastFrom need cost j (rowFrom row 0) column) ≡ leastFrom need cost 0 (rowFrom row 0) column)
 
 abbrev μ-loop : tie.MeasureT-loop
-μ-loop need cost cells next column best₀ j₀ best j = length need - j
+μ-loop need cost row column best₀ j₀ best j = length need - j
 
 loop-holds : tie.Need-loop-holds Inv-loop μ-loop
 loop-holds c =
     let a = c .before .before .before .args in
-    omega (arith, least-le (now (a .need)) (now (a .cost)) (rowFrom (now (a .cells)) (a .next)) (a .column))
+    omega (arith, reads-above (ceiling + 1) (omega arith), least-le (now (a .need)) (now (a .cost)) (rowFrom (now (a .row)) 0) (a .column))
 
 mul-offer : tie.Need-mul-offer Inv-loop μ-loop
 mul-offer c = search needs
@@ -53,13 +55,16 @@ loop-again : tie.Need-loop-again Inv-loop μ-loop
 loop-again c =
     let l = c .before .before .before .before .before in
     let a = l .before .before .before .before .args in
-    omega (arith, least-step (now (a .need)) (now (a .cost)) (rowFrom (now (a .cells)) (a .next)) (a .column) (l .loop .j) (omega arith) (omega arith))
+    omega (arith, ap reads (c .lesser .ensures) ∙ reads-min (l .loop .best) (c .before .offer .result), c .before .offer .ensures, least-step (now (a .need)) (now (a .cost)) (rowFrom (now (a .row)) 0) (a .column) (l .loop .j) (omega arith) (omega arith))
+
+reads-requires : tie.Need-reads-requires Inv-loop μ-loop
+reads-requires c κs = search needs
 
 returns : tie.Need-returns Inv-loop μ-loop
 returns c =
-    let l = c .before in
+    let l = c .before .before in
     let a = l .before .before .before .before .args in
-    omega (arith, least-end (now (a .need)) (now (a .cost)) (rowFrom (now (a .cells)) (a .next)) (a .column) (l .loop .j) (omega arith))
+    omega (arith, c .reads .ensures, least-end (now (a .need)) (now (a .cost)) (rowFrom (now (a .row)) 0) (a .column) (l .loop .j) (omega arith))
 
 pub least-spec : {M : Type 1} → statement M
 least-spec =
@@ -77,4 +82,5 @@ least-spec =
     add-j
     loop-less
     loop-again
+    reads-requires
     returns)

@@ -1,6 +1,10 @@
 -- `cells::onward` meets its contract. Assumes nothing.
-use mathlib.Core.Path.{ap, _∙_}
-use Rattle.model.specs.Cells.{plus, onward}
+use mathlib.Core.Path.{ap₂, _∙_}
+use Prim.Native.Nat.{ℕ, _+_, _-_}
+use native.Mathlib.Omega.{arith}
+use lib.ListN.{getD}
+use Rattle.model.specs.Cells.{reads, onward}
+use Rattle.cells.proofs.Held.{counted, counts-sum}
 use borrow.Author.Needs.{needs}
 use Rattle.cells.proofs.onward.Statement.{statement}
 use Rattle.cells.proofs.onward.Tie as tie
@@ -17,16 +21,26 @@ mul-cell c = search needs
 shared-slice-read-cell : tie.Need-shared-slice-read-cell
 shared-slice-read-cell c = search needs
 
+count-of-requires : tie.Need-count-of-requires
+count-of-requires c κs = search needs
+
+count-of-requires-2 : tie.Need-count-of-requires-2
+count-of-requires-2 c κs = search needs
+
+add-reads : tie.Need-add-reads
+add-reads c = omega (arith, counted _ _ (c .before .count-of .ensures), counted _ _ (c .count-of2 .ensures))
+
 reads-requires : tie.Need-reads-requires
 reads-requires c κs = search needs
-
-plus-requires : tie.Need-plus-requires
-plus-requires c κs = search needs
 
 returns : tie.Need-returns
 unfolding onward
 returns c =
-    c .plus .ensures ∙ ap (plus (c .before .before .before .before .args .cost)) (c .before .reads .ensures)
+    let o = c .before in
+    let a = o .before .before .before .before .args in
+    c .reads .ensures
+    ∙ ap₂ (λ (x y : ℕ). reads (x + y)) (o .before .count-of .ensures) (o .count-of2 .ensures)
+    ∙ counts-sum (a .cost) (getD (a .cells .now) (a .next + (a .column - a .need)) 0)
 
 pub onward-spec : {M : Type 1} → statement M
 onward-spec =
@@ -36,6 +50,8 @@ onward-spec =
     add-cell
     mul-cell
     shared-slice-read-cell
+    count-of-requires
+    count-of-requires-2
+    add-reads
     reads-requires
-    plus-requires
     returns)

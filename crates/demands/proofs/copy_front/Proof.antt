@@ -1,5 +1,5 @@
 -- `demands::copy_front` meets its contract. The invariant: the buffer is the first i numbers and then what it was. Assumes nothing.
-use Prim.Native.Nat.{_+_, _-_, _≤_}
+use Prim.Native.Nat.{_-_, _≤_}
 use native.Mathlib.Omega.{arith}
 use mathlib.Core.Path.{_≡_, refl, _∙_}
 use mathlib.Core.List.{_++_}

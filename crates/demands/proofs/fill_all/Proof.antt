@@ -3,11 +3,10 @@ use Prim.Native.Nat.{_-_}
 use native.Mathlib.Omega.{arith}
 use mathlib.Core.Path.{_≡_, refl, sym, ap, _∙_}
 use lib.ListN.{length}
-use Rattle.answer.specs.Said.{filled}
 use Rattle.options.specs.Tasks.{cellsOfTable}
 use Rattle.portions.specs.Said.{said}
 use Rattle.portions.proofs.Answers.{says, told}
-use Rattle.demands.proofs.Fillings.{At, begin, turned-away, turn, further, all}
+use Rattle.demands.proofs.Fillings.{At, begin, turned-away, turn, no-less, further, all}
 use borrow.Author.Needs.{needs}
 use Rattle.demands.proofs.fill_all.Statement.{statement}
 use Rattle.demands.proofs.fill_all.Tie as tie
@@ -42,6 +41,14 @@ returns c =
     turned-away (a .table .now) (a .cells .now) (l .loop .inv .1) (o .portion .ensures)
     (λ five. omega (arith, sym (told (o .portion .result) ∙ ap says (k .match .keys2)) ∙ five))
 
+sub-if1 : tie.Need-sub-if1 Inv-loop μ-loop
+sub-if1 c =
+    let g = c .before in
+    let o = g .before .before .before .before in
+    let l = o .before .before in
+    let a = l .before .before .before .args in
+    no-less (a .table .now) (a .cells .now) (l .loop .inv .1) (o .portion .ensures) (ap said (g .got .given .1))
+
 same-length-2 : tie.Need-same-length-2 Inv-loop μ-loop
 same-length-2 c = search needs
 
@@ -50,17 +57,17 @@ returns-2 c =
     let g = c .before .before in
     let o = g .before .before .before .before in
     let l = o .before .before in
-    let s = l .before .before .before in
-    let a = s .args in
-    all (a .table .now) (a .cells .now) (l .loop .inv .1) (o .portion .ensures) (ap said (g .got .given .1)) (s .pre) (c .if1 .taken)
+    let a = l .before .before .before .args in
+    all (a .table .now) (a .cells .now) (l .loop .inv .1) (o .portion .ensures) (ap said (g .got .given .1)) (omega (arith, c .if1 .taken))
 
 loop-less : tie.Need-loop-less Inv-loop μ-loop
 loop-less c =
     let g = c .before .before in
     let o = g .before .before .before .before in
     let l = o .before .before in
-    let a = l .before .before .before .args in
-    omega (arith, further (a .table .now) (a .cells .now) (l .loop .inv .1) (o .portion .ensures) (ap said (g .got .given .1)) (c .if1 .left))
+    let s = l .before .before .before in
+    let a = s .args in
+    omega (arith, further (a .table .now) (a .cells .now) (l .loop .inv .1) (o .portion .ensures) (ap said (g .got .given .1)) (s .pre) (c .if1 .left))
 
 loop-again : tie.Need-loop-again Inv-loop μ-loop
 loop-again c =
@@ -82,6 +89,7 @@ fill-all-spec =
     enum-told
     same-length
     returns
+    sub-if1
     same-length-2
     returns-2
     loop-less

@@ -1,18 +1,17 @@
 -- `demands::plan_whole` meets its contract. Assumes nothing.
-use Prim.Native.Nat.{ℕ, _+_}
+use Prim.Native.Nat.{ℕ}
 use native.Mathlib.Omega.{arith}
 use mathlib.Core.Path.{_≡_, refl, sym, ap, subst, _∙_}
 use mathlib.Core.Logic.{inl}
 use mathlib.Core.List.{List, _++_}
 use lib.ListN.{length, take, drop, replicate}
 use Rattle.answer.specs.declared.Refusal.{Refusal}
-use Rattle.answer.specs.Said.{Said, refused, filled}
+use Rattle.answer.specs.Said.{Said, refused}
 use Rattle.block.specs.Bytes.{Bytes}
 use Rattle.portions.specs.declared.Filling.{Filling}
 use Rattle.portions.specs.declared.Filling.the-variants as filling
 use Rattle.portions.specs.Said as portions
 use Rattle.portions.proofs.Answers as fillings
-use Rattle.taking.specs.Said.{said}
 use Rattle.taking.proofs.Answers as takings
 use Rattle.demands.specs.Portions.{AllFilled, refusalIn}
 use Rattle.demands.proofs.Fillings.{some-budget}

@@ -64,7 +64,7 @@ task-run-requires c κs =
     let less : i < a .n = omega arith in
     let few = s .pre .0 .table .numbers .header .cores-high in (
       (block-limits w i less (b .task-block .result .now) (b .task-block .ensures .bytes), block-meets w i less (b .task-block .result .now) (b .task-block .ensures .bytes)),
-      omega (arith, mod-lt (a .from) pos, mod-le (a .from) (a .m + 1), few, s .pre .0 .cores, s .pre .1),
+      omega (arith, mod-lt (a .from) pos, mod-le (a .from) (a .m + 1), stretch-before (a .m + 1) (a .from) (omega arith) (omega arith), few, s .pre .0 .cores, s .pre .1),
     )
 
 same-length-2 : tie.Need-same-length-2

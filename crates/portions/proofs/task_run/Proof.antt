@@ -47,7 +47,7 @@ returns c =
     let a = s .args in
     f .fill-run .ensures
     ∙ loaded (a .common) (taskNumbersIn (a .block .now)) (s .pre .0 .0) (s .pre .0 .1) (o .before .needs .result) (o .costs .result) (o .before .before .modes .result) (a .cells .now)
-    (a .next) (a .start) (a .from) (a .to) (o .before .needs .ensures) (o .costs .ensures) (o .before .before .modes .ensures) (s .pre .1 .2) (s .pre .1 .3)
+    (a .next) (a .start) (a .from) (a .to) (o .before .needs .ensures) (o .costs .ensures) (o .before .before .modes .ensures) (s .pre .1 .1) (s .pre .1 .3)
 
 pub task-run-spec : {M : Type 1} → statement M
 task-run-spec =

@@ -8,9 +8,9 @@ use Rattle.answer.specs.Said as told
 use Rattle.answer.specs.Order.{first}
 use Rattle.answer.proofs.Bools.{found}
 use Rattle.answer.proofs.Elses.{stopped, answered, went-on}
+use Rattle.block.specs.Layout.{tasksIn}
 use Rattle.table.specs.Said.{said}
 use Rattle.table.proofs.Readings.{reading}
-use Rattle.block.specs.Layout.{tasksIn}
 use Rattle.table.specs.Order.{blockAt, headerBlock, headerRows, headerSaid, otherLength, frontRows}
 use Rattle.table.proofs.Rows.{front-first}
 use borrow.Author.Needs.{needs}

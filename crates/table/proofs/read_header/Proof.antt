@@ -1,9 +1,8 @@
 -- `table::read_header` meets its contract. Each test that is not given leaves the rows behind it. Assumes nothing.
 use mathlib.Core.Path.{_≡_, sym, _∙_}
 use Prim.Native.Nat.{ℕ}
-use lib.ListN.{drop}
-use Rattle.answer.specs.Order.{first}
 use Rattle.answer.proofs.Bools.{found}
+use Rattle.answer.proofs.Rows.{Past}
 use Rattle.block.specs.Layout.{tasksIn, coresIn, commonIn}
 use Rattle.block.specs.Tests.{wrongLimits}
 use Rattle.table.specs.Order.{headerRows, headerSaid}
@@ -11,11 +10,11 @@ use borrow.Author.Needs.{needs}
 use Rattle.table.proofs.read_header.Statement.{statement}
 use Rattle.table.proofs.read_header.Tie as tie
 
--- the first k rows are not given
+-- the tests of the first k rows are passed
 abbrev Went : tie.Start → ℕ → Type 0
 Went s k =
     let block = s .args .block .now in
-    first (headerRows block) (headerSaid block) ≡ first (drop k (headerRows block)) (headerSaid block)
+    Past (headerRows block) (headerSaid block) k
 
 get16-requires : tie.Need-get16-requires
 get16-requires c κs = search needs

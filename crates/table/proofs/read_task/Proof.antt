@@ -2,10 +2,9 @@
 use mathlib.Core.Path.{_≡_, sym, ap, _∙_}
 use mathlib.Core.List.{[], _∷_}
 use Prim.Native.Nat.{ℕ}
-use lib.ListN.{drop}
 use Rattle.answer.specs.Said.{task}
-use Rattle.answer.specs.Order.{first}
 use Rattle.answer.proofs.Bools.{found}
+use Rattle.answer.proofs.Rows.{Past}
 use Rattle.answer.proofs.Elses.{stopped}
 use Rattle.block.specs.Layout.{elasticityIn, modesIn, permittedIn}
 use Rattle.block.specs.Tests.{wrongShape, wrongPermitted}
@@ -16,12 +15,11 @@ use borrow.Author.Needs.{needs}
 use Rattle.table.proofs.read_task.Statement.{statement}
 use Rattle.table.proofs.read_task.Tie as tie
 
--- the first k rows are not given
+-- the tests of the first k rows are passed
 abbrev Went : tie.Start → ℕ → Type 0
 Went s k =
     let block = s .args .block .now in
-    let rows = taskRows (s .args .task) (s .args .at) block in
-    first rows (taskSaid block) ≡ first (drop k rows) (taskSaid block)
+    Past (taskRows (s .args .task) (s .args .at) block) (taskSaid block) k
 
 task-numbers-requires : tie.Need-task-numbers-requires
 task-numbers-requires c κs = search needs

@@ -1,23 +1,21 @@
 -- `table::test_figures` meets its contract. Each test that is not given leaves the rows behind it. Assumes nothing.
-use mathlib.Core.Path.{_≡_, sym, ap, _∙_}
+use mathlib.Core.Path.{sym, ap, _∙_}
 use Prim.Native.Nat.{ℕ}
 use mathlib.Core.Bool.{not}
-use lib.ListN.{drop}
 use Rattle.answer.specs.Said.{figures}
-use Rattle.answer.specs.Order.{first}
 use Rattle.answer.proofs.Bools.{found}
+use Rattle.answer.proofs.Rows.{Past}
 use Rattle.block.specs.Layout.{listed}
 use Rattle.block.specs.Tests.{figureRows}
 use borrow.Author.Needs.{needs}
 use Rattle.table.proofs.test_figures.Statement.{statement}
 use Rattle.table.proofs.test_figures.Tie as tie
 
--- the first k rows are not given
+-- the tests of the first k rows are passed
 abbrev Went : tie.Start → ℕ → Type 0
 Went s k =
     let a = s .args in
-    let rows = figureRows (a .at) (a .common) (listed (a .work) (a .span) (a .period)) in
-    first rows (figures (a .work) (a .span) (a .period)) ≡ first (drop k rows) (figures (a .work) (a .span) (a .period))
+    Past (figureRows (a .at) (a .common) (listed (a .work) (a .span) (a .period))) (figures (a .work) (a .span) (a .period)) k
 
 wrong-period-requires : tie.Need-wrong-period-requires
 wrong-period-requires c κs = search needs

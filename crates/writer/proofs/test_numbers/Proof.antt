@@ -1,22 +1,20 @@
 -- `writer::test_numbers` meets its contract. Each test that is not given leaves the rows behind it. Assumes nothing.
-use mathlib.Core.Path.{_≡_, sym, _∙_}
+use mathlib.Core.Path.{sym, _∙_}
 use Prim.Native.Nat.{ℕ}
-use lib.ListN.{drop}
 use borrow.Author.Tests.{lt-ltb, le-ltb}
 use Rattle.answer.specs.Said.{written}
-use Rattle.answer.specs.Order.{first}
 use Rattle.answer.proofs.Bools.{found}
+use Rattle.answer.proofs.Rows.{Past}
 use Rattle.writer.specs.Order.{numberRows}
 use borrow.Author.Needs.{needs}
 use Rattle.writer.proofs.test_numbers.Statement.{statement}
 use Rattle.writer.proofs.test_numbers.Tie as tie
 
--- the first k rows are not given
+-- the tests of the first k rows are passed
 abbrev Went : tie.Start → ℕ → Type 0
 Went s k =
     let a = s .args in
-    let rows = numberRows (a .common) (a .number) (a .elasticity) (a .modes) (a .permitted) (a .lent) in
-    first rows written ≡ first (drop k rows) written
+    Past (numberRows (a .common) (a .number) (a .elasticity) (a .modes) (a .permitted) (a .lent)) written k
 
 wrong-common-requires : tie.Need-wrong-common-requires
 wrong-common-requires c κs = search needs

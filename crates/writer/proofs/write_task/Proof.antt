@@ -24,16 +24,16 @@ use Rattle.writer.proofs.write_task.Statement.{statement}
 use Rattle.writer.proofs.write_task.Tie as tie
 
 -- the rows of the numbers, those behind them, and the buffer where none is given
-abbrev of-numbers : tie.Start → List Row
-of-numbers s =
+abbrev ofNumbers : tie.Start → List Row
+ofNumbers s =
     let a = s .args in
     numberRows (a .common) (a .number) (a .elasticity) (a .modes) (a .permitted) (length (a .figures .now))
 
-abbrev of-modes : tie.Start → List Row
-of-modes s = modesRows 0 (s .args .common) (threes (s .args .figures .now))
+abbrev ofModes : tie.Start → List Row
+ofModes s = modesRows 0 (s .args .common) (threes (s .args .figures .now))
 
-abbrev of-room : tie.Start → List Row
-of-room s = roomRows (length (s .args .out .now))
+abbrev ofRoom : tie.Start → List Row
+ofRoom s = roomRows (length (s .args .out .now))
 
 abbrev filled : tie.Start → List ℕ
 filled s =
@@ -55,16 +55,16 @@ returns c =
     let d = c .before .before in
     let s = d .before .before .before in
     let before = s .args .out .now in
-    let later = of-modes s ++ of-room s in
-    joined (of-numbers s) later written before (filled s)
-    (kept writing (0 ∷ []) (d .test-numbers .result) (of-numbers s) written (first later written) before (afterwards later before (filled s)) tt
+    let later = ofModes s ++ ofRoom s in
+    joined (ofNumbers s) later written before (filled s)
+    (kept writing (0 ∷ []) (d .test-numbers .result) (ofNumbers s) written (first later written) before (afterwards later before (filled s)) tt
     (c .before .match .keys2) (d .test-numbers .ensures))
 
 -- behind good numbers none of their rows is given
-numbers-none : (c : tie.At-match-keys1) → NoneGiven (of-numbers (c .before .before .before .before))
+numbers-none : (c : tie.At-match-keys1) → NoneGiven (ofNumbers (c .before .before .before .before))
 numbers-none c =
     let d = c .before in
-    passed writing (1 ∷ []) (d .test-numbers .result) (of-numbers (d .before .before .before)) written tt (c .match .keys1) (d .test-numbers .ensures)
+    passed writing (1 ∷ []) (d .test-numbers .result) (ofNumbers (d .before .before .before)) written tt (c .match .keys1) (d .test-numbers .ensures)
 
 test-modes-requires : tie.Need-test-modes-requires
 test-modes-requires c κs = search needs
@@ -78,11 +78,11 @@ in-turn-requires c κs = search needs
 -- the answer is by the rows behind those
 answer : (c : tie.After-in-turn)
     → let s = c .before .before .before .before .before .before .before .before in
-    said (c .in-turn .result) ≡ first (of-modes s ++ of-room s) written
+    said (c .in-turn .result) ≡ first (ofModes s ++ ofRoom s) written
 answer c =
     let s = c .before .before .before .before .before .before .before .before in
     ap said (c .in-turn .ensures)
-    ∙ rows-in-turn (of-modes s) (of-room s) (c .before .before .test-modes .result) (c .before .test-room .result)
+    ∙ rows-in-turn (ofModes s) (ofRoom s) (c .before .before .test-modes .result) (c .before .test-room .result)
     (c .before .before .test-modes .ensures) (c .before .test-room .ensures)
 
 enum-told-3 : tie.Need-enum-told-3
@@ -98,19 +98,19 @@ returns-2 c =
     let k = d .before .before .before .before in
     let s = k .before .before .before .before in
     let before = s .args .out .now in
-    let later = of-modes s ++ of-room s in
-    behind (of-numbers s) later written before (filled s) (numbers-none k)
+    let later = ofModes s ++ ofRoom s in
+    behind (ofNumbers s) later written before (filled s) (numbers-none k)
     (kept writing (0 ∷ []) (d .in-turn .result) later written written before (filled s) tt (c .before .match2 .keys2) (answer d))
 
 -- behind a good answer none of all the rows is given
 none : (c : tie.At-match2-keys1)
     → let s = c .before .before .before .before .before .before .before .before .before in
-    NoneGiven (of-numbers s) × NoneGiven (of-modes s ++ of-room s) × (said (c .before .in-turn .result) ≡ written)
+    NoneGiven (ofNumbers s) × NoneGiven (ofModes s ++ ofRoom s) × (said (c .before .in-turn .result) ≡ written)
 none c =
     let d = c .before in
     let k = d .before .before .before .before in
     let s = k .before .before .before .before in
-    let rows = of-modes s ++ of-room s in (
+    let rows = ofModes s ++ ofRoom s in (
       numbers-none k,
       passed writing (1 ∷ []) (d .in-turn .result) rows written tt (c .match2 .keys1) (answer d),
       answered writing (1 ∷ []) (d .in-turn .result) rows written tt (c .match2 .keys1) (answer d),
@@ -123,7 +123,7 @@ fill-task-requires c κs =
     let a = s .args in
     let nine = or-false (wrongShape (a .elasticity) (a .modes)) (not (eqb (length (a .figures .now)) (3 * a .modes))) (none k .0 .1 .1 .0) in
     let shape = or-false (outside 1 10 (a .elasticity)) (outside 1 16 (a .modes)) (nine .0) in
-    let room = none-append (of-modes s) (of-room s) (none k .1) .1 in
+    let room = none-append (ofModes s) (ofRoom s) (none k .1) .1 in
     (ltb-false _ _ (room .0), inside 1 16 (a .modes) (shape .1) .1, is (length (a .figures .now)) (3 * a .modes) (nine .1))
 
 same-length : tie.Need-same-length
@@ -135,8 +135,8 @@ returns-3 c =
     let f = c .before .before in
     let k = f .before .before .before in
     let s = k .before .before .before .before .before .before .before .before .before in
-    let later = of-modes s ++ of-room s in
-    goes (of-numbers s ++ later) written (s .args .out .now) (filled s) (append-none (of-numbers s) later (none k .0) (none k .1)) (none k .2)
+    let later = ofModes s ++ ofRoom s in
+    goes (ofNumbers s ++ later) written (s .args .out .now) (filled s) (append-none (ofNumbers s) later (none k .0) (none k .1)) (none k .2)
     (f .fill-task .ensures)
 
 pub write-task-spec : {M : Type 1} → statement M
