@@ -5,12 +5,13 @@
 //
 //   0, 1        kind; workspace: 0 fresh, 1 as the last call left it
 //   2, 4, 6     bytes of the table, cells, and bytes of the output that are lent (16 bits each)
-//   8, 12, 16   the call's arguments (32 bits each)
+//   8, 12, 16   the call's numbers in the order of its parameters (32 bits each)
 //   20, 21      E and mode count, for the task writer
 //   22, 24, 26  how many bytes differ from the base, how many cells from the workspace, how many figures there are (16 bits each)
 //   28          letters of the name; zeros up to 32
 //
 // Then come the name, those bytes (offset in 16 bits, byte), those cells (number in 16 bits, value in 64) and the figures (32 bits each).
+// Every cell of a fresh workspace holds 77, and every byte of the output 170 before the call.
 ghost use Prim.Native.Nat.{_<_, _≤_};
 ghost use lib.ListN.{length};
 use block::get8;

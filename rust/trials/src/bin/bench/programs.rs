@@ -12,8 +12,8 @@ use reference::choices_of;
 /// of that size.
 const COST_UNIT: u64 = 1_000_000_000_000;
 
-/// The table as an integer program in the form that both solvers read: one variable for each mode
-/// that can be chosen, its cost, one mode for each task, and the cores.
+/// The table as an integer program in the form that both solvers read: one variable for each permitted
+/// mode, its cost, one mode for each task, and the cores.
 pub fn program_of(table: &[u8], cores: u16) -> String {
     let tasks = choices_of(table).expect("a benchmark's table is lawful");
     let (mut costs, mut needs, mut ones, mut names) =
@@ -22,8 +22,8 @@ pub fn program_of(table: &[u8], cores: u16) -> String {
         let _ = write!(ones, " t{task}:");
         for choice in choices {
             let name = format!("x{task}_{}", choice.mode);
-            // One term to a line: both solvers bound a line's length.
             let (whole, rest) = (choice.cost / COST_UNIT, choice.cost % COST_UNIT);
+            // One term to a line: both solvers bound a line's length.
             let _ = writeln!(costs, " + {whole}.{rest:012} {name}");
             let _ = writeln!(needs, " + {} {name}", choice.need);
             let _ = writeln!(ones, " + {name}");
