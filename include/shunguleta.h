@@ -73,10 +73,9 @@ struct shunguleta_reply shunguleta_write_header(uint16_t tasks, uint16_t cores, 
 struct shunguleta_reply shunguleta_write_task(uint32_t period, uint16_t number, uint8_t elasticity, uint8_t modes, uint16_t permitted,
                                               const uint32_t *figures, size_t figures_length, uint8_t *out, size_t out_length);
 
-/* Fills all cells in portions of `budget`, 0 for all at once, and takes the plan; a refused call leaves the cells too as they were.
- * Values: cores used, cost. */
+/* Fills all cells and takes the plan; a refused call leaves the cells too as they were. Values: cores used, cost. */
 struct shunguleta_reply shunguleta_plan_whole(const uint8_t *table, size_t table_length, uint64_t *cells, size_t cells_length,
-                                              uint32_t budget, uint8_t *out, size_t out_length);
+                                              uint8_t *out, size_t out_length);
 
 #ifdef __cplusplus
 }

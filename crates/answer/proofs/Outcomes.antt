@@ -1,4 +1,4 @@
--- The outcome of a call that may change a lent buffer, from its tests. Assumes nothing.
+-- The outcome of a call that may change a lent buffer: it is settled, and comes from the call's tests. Assumes nothing.
 use Prim.Native.Nat.{ℕ}
 use mathlib.Core.Path.{_≡_, refl, sym, ap, _∙_}
 use mathlib.Core.List.{List, [], _∷_, _++_}
@@ -7,6 +7,11 @@ use Rattle.answer.specs.Said.{Said, refused}
 use Rattle.answer.specs.Order.{Row, row, first, afterwards, Outcome, NoneGiven}
 use Rattle.answer.proofs.Bools.{clash}
 use Rattle.answer.proofs.Rows.{kind, first-append, none-first, stop, first-none}
+
+-- what is said and what the buffer holds are settled
+pub outcome-one : {rows : List Row} {rest : Said} {before after : List ℕ} {s t : Said} {d e : List ℕ} → Outcome rows rest before after s d
+    → Outcome rows rest before after t e → (s ≡ t) × (d ≡ e)
+outcome-one p q = (p .says ∙ sym (q .says), p .leaves ∙ sym (q .leaves))
 
 module _ (before after : List ℕ) where
   after-append : (A B : List Row) → afterwards (A ++ B) before after ≡ afterwards A before (afterwards B before after)

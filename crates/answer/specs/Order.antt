@@ -2,7 +2,8 @@
 use Prim.Native.Nat.{ℕ}
 use mathlib.Core.Path.{_≡_}
 use mathlib.Core.List.{List, [], _∷_}
-use mathlib.Core.Bool.{Bool, false, cond}
+use mathlib.Core.Bool.{Bool, false, cond, _||_}
+use lib.Dec.{T, eqb}
 use Rattle.answer.specs.Said.{Said, refused}
 
 -- a row of the order: a refusal's number, the place that it names, and whether it is given
@@ -29,3 +30,11 @@ pub record Outcome (rows : List Row) (rest : Said) (before after : List ℕ) (s 
 abbrev pub NoneGiven : List Row → Type 0
 NoneGiven [] = Unit
 NoneGiven (row number at given ∷ rows) = (given ≡ false) × NoneGiven rows
+
+-- one of these numbers
+abbrev pub isOneOf : List ℕ → ℕ → Bool
+isOneOf [] k = false
+isOneOf (x ∷ xs) k = eqb k x || isOneOf xs k
+
+abbrev pub OneOf : List ℕ → ℕ → Type 0
+OneOf xs k = T (isOneOf xs k)

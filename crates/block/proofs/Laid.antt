@@ -103,6 +103,13 @@ unfolding laid
 length-laid [] [] f = refl
 length-laid (w ∷ ws) (x ∷ xs) f = rw (length-append, length-bytes, length-laid ws xs (f .1))
 
+-- whatever the numbers are, no more bytes than the widths have
+pub laid-most : (ws xs : List ℕ) → length (laid ws xs) ≤ total ws
+unfolding laid
+laid-most [] xs = omega arith
+laid-most (w ∷ ws) [] = omega arith
+laid-most (w ∷ ws) (x ∷ xs) = rw (length-append, length-bytes) (omega (arith, laid-most ws xs))
+
 -- the numbers of these widths, one after the other from an offset
 unfoldable pub fields : List ℕ → ℕ → List ℕ → List ℕ
 fields [] at s = []

@@ -11,9 +11,9 @@ use Rattle.model.specs.Turns.{eachFrom}
 use Rattle.block.specs.Bytes.{Bytes, number, laid, checkOf, zeros}
 use Rattle.block.specs.Layout.{kindIn, checkIn, editionIn, tasksIn, coresIn, commonIn, headerUnused, elasticityIn, modesIn, permittedIn, taskNumberIn, taskUnused, figuresIn, flat}
 use Rattle.block.specs.Whole.{headerWidths, headerBytes, taskWidths, taskBytes}
-use Rattle.block.proofs.Laid.{Fit, total, length-laid, bytes-laid, fields}
+use Rattle.block.proofs.Laid.{Fit, total, length-laid, laid-most, bytes-laid, fields}
 use Rattle.block.proofs.Zeros.{zeros-number, number-zeros}
-use Rattle.block.proofs.Whole.{sealed-bytes, made, remade}
+use Rattle.block.proofs.Whole.{length-sealed, sealed-bytes, made, remade}
 
 -- no byte of two runs is other than zero
 unused : (a b : Bool) → (not a || not b) ≡ false → (a ≡ true) × (b ≡ true)
@@ -37,6 +37,10 @@ module _ (n m H : ℕ) where
   pub header-fit : n < 256 ^ 2 → m < 256 ^ 2 → H < 256 ^ 4 → Fit headerWidths headerNumbers
   unfolding headerWidths
   header-fit a b c = (omega arith, (omega arith, (omega arith, (omega arith, (omega arith, (omega arith, tt))))))
+
+  pub header-length : length (headerBytes n m H) ≡ 512
+  unfolding headerBytes headerWidths
+  header-length = length-sealed (laid headerWidths headerNumbers) (omega (arith, laid-most headerWidths headerNumbers))
 
   pub header-long : Fit headerWidths headerNumbers → length (laid headerWidths headerNumbers) ≡ 12
   unfolding headerWidths
@@ -128,6 +132,12 @@ module _ (num E modes permitted : ℕ) (figures : List ℕ) where
 
   pub task-long : Fit (taskWidths modes) taskNumbers → length (laid (taskWidths modes) taskNumbers) ≡ 8 + 12 * modes
   task-long f = length-laid (taskWidths modes) taskNumbers f ∙ total-task modes
+
+  -- a block of any numbers, of at most 16 modes, is a whole one
+  pub task-length : modes ≤ 16 → length (taskBytes num E modes permitted figures) ≡ 512
+  unfolding taskBytes
+  task-length few =
+      length-sealed (laid (taskWidths modes) taskNumbers) (omega (arith, laid-most (taskWidths modes) taskNumbers, total-task modes))
 
   -- a block made of the numbers holds them
   pub task-holds : TaskFits num E modes permitted figures → HoldsTask num E modes permitted figures (taskBytes num E modes permitted figures)

@@ -19,7 +19,7 @@ module _ (s : List ℕ) (h : length s ≤ 508) where
   unfolding body
   length-body = simp (length-append, length-replicate) (omega arith)
 
-  length-sealed : length (sealed s) ≡ 512
+  pub length-sealed : length (sealed s) ≡ 512
   unfolding sealed
   length-sealed = simp (length-append, length-bytes, length-body)
 

@@ -4,6 +4,7 @@ use mathlib.Core.Bool.{Bool, false, not, _||_}
 use mathlib.Core.List.{List, [], _∷_, _++_}
 use lib.Dec.{eqb, ltb}
 use Rattle.answer.specs.Order.{Row, row}
+use Rattle.model.specs.Limits.{mostTasks, mostCores}
 use Rattle.model.specs.Rules.{meets}
 use Rattle.block.specs.Layout.{Figures}
 
@@ -15,7 +16,7 @@ abbrev pub wrongCommon : ℕ → Bool
 wrongCommon H = outside 1 100000 H
 
 abbrev pub wrongLimits : ℕ → ℕ → ℕ → Bool
-wrongLimits n m H = outside 1 32 n || outside 1 64 m || wrongCommon H
+wrongLimits n m H = outside 1 mostTasks n || outside 1 mostCores m || wrongCommon H
 
 -- 9: E or mode count beyond limits
 abbrev pub wrongShape : ℕ → ℕ → Bool

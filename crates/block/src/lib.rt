@@ -15,6 +15,8 @@ ghost use Rattle.block.specs.Tests.{
   wrongPeriod,
   wrongWork,
 };
+use model::MOST_CORES;
+use model::MOST_TASKS;
 
 // The number of 8 bits at an offset.
 pub fn get8(block: &[u8], at: usize) -> u8
@@ -100,7 +102,9 @@ pub fn wrong_common(common: u32) -> bool
 pub fn wrong_limits(tasks: u16, cores: u16, common: u32) -> bool
     ensures { λ r. ⌜ r ≡ wrongLimits tasks cores common ⌝ }
 {
-    is_outside(1, 32, tasks as u32) | is_outside(1, 64, cores as u32) | wrong_common(common)
+    is_outside(1, MOST_TASKS as u32, tasks as u32)
+        | is_outside(1, MOST_CORES as u32, cores as u32)
+        | wrong_common(common)
 }
 
 // Whether the elasticity or the mode count is beyond its limits.

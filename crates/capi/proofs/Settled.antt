@@ -6,7 +6,7 @@ use Rattle.table.proofs.Settled as table-settled
 use Rattle.writer.proofs.Settled as writer-settled
 use Rattle.portions.proofs.Settled as portions-settled
 use Rattle.taking.proofs.Settled as taking-settled
-use Rattle.demands.proofs.Settled as demands-settled
+use Rattle.whole.proofs.Settled as whole-settled
 use Rattle.table.specs.Said.{said as readingSaid}
 use Rattle.writer.specs.Said.{said as writtenSaid}
 use Rattle.portions.specs.Said.{said as fillingSaid}
@@ -59,4 +59,4 @@ pub write-task-one : One write-task-kinds.ps write-task-kinds.r write-task-reads
 write-task-one κs a x y s t = settled writtenSaid (λ b c. writer-settled.write-task-one κs a b c s t)
 
 pub plan-whole-one : One plan-whole-kinds.ps plan-whole-kinds.r plan-whole-reads.Post
-plan-whole-one κs a x y s t = settled takenSaid (λ b c. demands-settled.plan-whole-one κs a b c s t)
+plan-whole-one κs a x y s t = settled takenSaid (λ b c. whole-settled.plan-whole-one κs a b c s t)

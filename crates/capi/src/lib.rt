@@ -9,7 +9,7 @@ ghost use Rattle.portions.specs.Said.{said as fillingSaid};
 ghost use Rattle.portions.specs.Portion.{Portioned};
 ghost use Rattle.taking.specs.Said.{said as takenSaid};
 ghost use Rattle.taking.specs.Take.{TookPlan};
-ghost use Rattle.demands.specs.Whole.{PlannedWhole};
+ghost use Rattle.whole.specs.Whole.{PlannedWhole};
 ghost use Rattle.capi.specs.Reply.{given, replyOf, Replied};
 use answer::Refusal;
 use portions::Filling;
@@ -170,13 +170,8 @@ pub extern "C" fn shunguleta_write_task(
 }
 
 #[no_mangle]
-pub extern "C" fn shunguleta_plan_whole(
-    table: &[u8],
-    cells: &mut [u64],
-    budget: u32,
-    out: &mut [u8],
-) -> Reply
+pub extern "C" fn shunguleta_plan_whole(table: &[u8], cells: &mut [u64], out: &mut [u8]) -> Reply
     ensures { λ r. ⌜ Replied takenSaid (λ answer. PlannedWhole (now (table .entry)) (now (cells .entry)) (now (out .entry)) answer (now (cells .exit)) (now (out .exit))) r ⌝ }
 {
-    of_taken(demands::plan_whole(table, cells, budget, out))
+    of_taken(whole::plan_whole(table, cells, out))
 }

@@ -178,7 +178,7 @@ fn call(head: &[u8], table: &[u8], cells: &mut [u64], figures: &[u32], out: &mut
             figures,
             out,
         ),
-        8 => shunguleta_plan_whole(table, cells, a, out),
+        8 => shunguleta_plan_whole(table, cells, out),
         _ => cores_of(a, b, c),
     }
 }

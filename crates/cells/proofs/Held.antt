@@ -16,8 +16,8 @@ use Rattle.model.specs.Workspace.{Rule, fill}
 use Rattle.model.proofs.Sums.{within, reads-within, reads-above, plus-within, plus-above}
 use Rattle.model.proofs.Least.{least-cong}
 use Rattle.model.proofs.Fills.{fill-outside}
-use Rattle.cells.specs.Rows.{held, rowFrom, taskRow}
-use Rattle.cells.specs.Held.{counts, AllCount, HeldRow}
+use Rattle.cells.specs.inner.Rows.{held, rowFrom, taskRow}
+use Rattle.cells.specs.inner.Held.{counts, AllCount, HeldRow}
 use Rattle.cells.proofs.Offers.{offered-in, offered-out}
 
 pub counts-within : (x : ℕ) → x ≤ ceiling → counts x ≡ x
@@ -46,21 +46,17 @@ counts-reads x = go (within x)
     go (inl h) = ap reads (counts-within x h)
     go (inr h) = reads-above (counts x) (omega (arith, counts-above x h)) ∙ sym (reads-above x h)
 
--- a cost and a cell, added as they count, read as `plus` writes them
-sum-reads : (cost v : ℕ) → reads (counts cost + v) ≡ plus cost (reads v)
-sum-reads cost v = go (within cost) (within v) (within (cost + v))
+-- a cost and a cell, added, read as `plus` writes them
+sum-reads : (cost v : ℕ) → reads (cost + v) ≡ plus cost (reads v)
+sum-reads cost v = go (within v) (within (cost + v))
   where
-    go : (cost ≤ ceiling) ⊎ (ceiling < cost) → (v ≤ ceiling) ⊎ (ceiling < v) → (cost + v ≤ ceiling) ⊎ (ceiling < cost + v)
-        → reads (counts cost + v) ≡ plus cost (reads v)
-    go (inl a) (inl b) (inl s) = rw (counts-within cost a, reads-within v b, reads-within (cost + v) s, plus-within cost v s)
-    go (inl a) (inl b) (inr s) = rw (counts-within cost a, reads-within v b, reads-above (cost + v) s, plus-above cost v s)
-    go (inl a) (inr b) s =
-        rw (counts-within cost a, reads-above v b, reads-above (cost + v) (omega arith), plus-above cost mark (omega arith))
-    go (inr a) b s =
-        reads-above (counts cost + v) (omega (arith, counts-above cost a)) ∙ sym (plus-above cost (reads v) (omega arith))
+    go : (v ≤ ceiling) ⊎ (ceiling < v) → (cost + v ≤ ceiling) ⊎ (ceiling < cost + v) → reads (cost + v) ≡ plus cost (reads v)
+    go (inl b) (inl s) = rw (reads-within v b, reads-within (cost + v) s, plus-within cost v s)
+    go (inl b) (inr s) = rw (reads-within v b, reads-above (cost + v) s, plus-above cost v s)
+    go (inr b) s = rw (reads-above v b, reads-above (cost + v) (omega arith), plus-above cost mark (omega arith))
 
 -- and so where the cell is taken as it counts
-pub counts-sum : (cost cell : ℕ) → reads (counts cost + counts cell) ≡ plus cost (reads cell)
+pub counts-sum : (cost cell : ℕ) → reads (cost + counts cell) ≡ plus cost (reads cell)
 counts-sum cost cell = sum-reads cost (counts cell) ∙ ap (plus cost) (counts-reads cell)
 
 -- the smaller of two reads as the smaller of what they read as
@@ -75,7 +71,7 @@ reads-min a b = go (within a) (within b)
 
 -- what a mode offers
 module _ (need cost : ℕ) (row : List ℕ) (c : ℕ) where
-  pub offer-in : need ≤ c → reads (counts cost + getD row (c - need) 0) ≡ offered (held need cost) (rowFrom row 0) c
+  pub offer-in : need ≤ c → reads (cost + getD row (c - need) 0) ≡ offered (held need cost) (rowFrom row 0) c
   unfolding onward
   offer-in h =
       sum-reads cost (getD row (c - need) 0)

@@ -9,7 +9,7 @@ use lib.Seq.{drop-cons}
 use Rattle.model.specs.Cells.{mark, may, onward, offered, least}
 use Rattle.model.proofs.Sums.{sound-le}
 use Rattle.model.proofs.Least.{least-sound}
-use Rattle.cells.specs.Rows.{held, heldTask}
+use Rattle.cells.specs.inner.Rows.{held, heldTask}
 
 -- a mode within the column, and one beyond it
 module _ (need cost : ℕ) (next : ℕ → ℕ) (c : ℕ) where

@@ -5,8 +5,10 @@ ghost use Prim.Native.Nat.{_+_, _-_, _≤_, _<_, min};
 ghost use lib.ListN.{length};
 ghost use Rattle.model.specs.Cells.{reads as readsAs, onward as onwardAs, offered, least as leastAs};
 ghost use Rattle.model.specs.Workspace.{fill};
-ghost use Rattle.cells.specs.Rows.{held, heldTask, rowFrom, lastRow, taskRow};
-ghost use Rattle.cells.specs.Held.{counts, AllCount, HeldRow};
+ghost use Rattle.model.specs.inner.Costs.{dearest};
+ghost use Rattle.cells.specs.inner.Rows.{widest, held, heldTask, NoneDearer, rowFrom, lastRow, taskRow};
+ghost use Rattle.cells.specs.inner.Held.{counts, AllCount, HeldRow};
+use model::WIDEST;
 
 // The mark, 2^64 - 1.
 pub const MARK: u64 = 18446744073709551615;
@@ -16,9 +18,6 @@ const CEILING: u64 = 3303014400000000000;
 
 // What a number above the ceiling counts as in a sum.
 const BEYOND: u64 = 3303014400000000001;
-
-// The cells of the widest row: 64 cores and none.
-const WIDEST: usize = 65;
 
 // A number above the cost ceiling reads as the mark.
 pub fn reads(x: u64) -> u64
@@ -34,18 +33,19 @@ fn count_of(x: u64) -> u64
     if x <= CEILING { x } else { BEYOND }
 }
 
-// A mode's cost plus the cell in the next row, at the column less its cores; the next row's cells start at `next`.
+// A mode's cost plus the cell in the next row, at the column less its cores; the next row's cells start at `next`. A cost is bounded
+// where it is added, so that the sum fits.
 pub fn onward(need: u64, cost: u64, cells: &[u64], next: usize, column: usize) -> u64
-    requires { ⌜ (need ≤ column) × (next + column < length (now cells)) ⌝ }
+    requires { ⌜ (need ≤ column) × (next + column < length (now cells)) × (cost ≤ dearest) ⌝ }
     ensures { λ r. ⌜ r ≡ onwardAs (held need cost) (rowFrom (now (cells .entry)) next) column ⌝ }
 {
     let cell = cells[next + (column - need as usize)];
-    reads(count_of(cost) + count_of(cell))
+    reads(cost + count_of(cell))
 }
 
 // The first cells of the row that starts at `next`, as they count in sums.
 fn hold_row(cells: &[u64], next: usize, end: usize) -> [u64; WIDEST]
-    requires { ⌜ (end ≤ 65) × (next + end ≤ length (now cells)) ⌝ }
+    requires { ⌜ (end ≤ widest) × (next + end ≤ length (now cells)) ⌝ }
     ensures { λ r. ⌜ HeldRow (now (cells .entry)) next end r ⌝ }
 {
     let mut row = [0u64; WIDEST];
@@ -61,16 +61,16 @@ fn hold_row(cells: &[u64], next: usize, end: usize) -> [u64; WIDEST]
 // A mode's cost plus the cell in the next row, at the column less its cores, as it counts in sums; past the ceiling where the mode
 // needs more cores than the column's number.
 fn offer(need: u64, cost: u64, row: &[u64], column: usize) -> u64
-    requires { ⌜ (column < length (now row)) × AllCount (now row) ⌝ }
+    requires { ⌜ (column < length (now row)) × AllCount (now row) × (cost ≤ dearest) ⌝ }
     ensures { λ r. ⌜ readsAs r ≡ offered (held need cost) (rowFrom (now (row .entry)) 0) column ⌝ }
 {
     if column < need as usize {
         return BEYOND;
     }
-    count_of(cost) + row[column - need as usize]
+    cost + row[column - need as usize]
 }
 
-fn lesser(a: u64, b: u64) -> u64
+pub fn lesser(a: u64, b: u64) -> u64
     ensures { λ r. ⌜ r ≡ min a b ⌝ }
 {
     if b < a { b } else { a }
@@ -78,7 +78,7 @@ fn lesser(a: u64, b: u64) -> u64
 
 // The least over the modes.
 fn least(need: &[u64], cost: &[u64], row: &[u64], column: usize) -> u64
-    requires { ⌜ (length (now need) ≡ length (now cost)) × (column < length (now row)) × AllCount (now row) ⌝ }
+    requires { ⌜ (length (now need) ≡ length (now cost)) × (column < length (now row)) × AllCount (now row) × NoneDearer (now cost) ⌝ }
     ensures { λ r. ⌜ r ≡ leastAs (heldTask (now (need .entry)) (now (cost .entry))) (rowFrom (now (row .entry)) 0) column ⌝ }
 {
     let mut best = BEYOND;
@@ -113,8 +113,8 @@ pub fn fill_run(
     from: usize,
     to: usize,
 )
-    requires { ⌜ length (now need) ≡ length (now cost) ⌝ }
-    requires { ⌜ (start ≤ from) × (from ≤ to) × (to ≤ length (now cells)) × (to ≤ start + 65) × (next + (to - start) ≤ start) ⌝ }
+    requires { ⌜ (length (now need) ≡ length (now cost)) × NoneDearer (now cost) ⌝ }
+    requires { ⌜ (start ≤ from) × (from ≤ to) × (to ≤ length (now cells)) × (to ≤ start + widest) × (next + (to - start) ≤ start) ⌝ }
     ensures { λ _. ⌜ now (cells .exit) ≡ fill (taskRow (heldTask (now (need .entry)) (now (cost .entry))) next start) (now (cells .entry)) from (to - from) ⌝ }
 {
     let row = hold_row(&*cells, next, to - start);

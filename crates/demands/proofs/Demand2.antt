@@ -8,7 +8,7 @@ use lib.ListN.{length, getD}
 use Rattle.answer.specs.Said.{header, task}
 use Rattle.answer.specs.Order.{NoneGiven}
 use Rattle.model.specs.Rules.{coresOf, demandOf, costOf}
-use Rattle.model.specs.Plan.{Option}
+use Rattle.model.specs.Plan.{Choice}
 use Rattle.model.specs.Turns.{eachFrom}
 use Rattle.model.proofs.Turns.{each-same, same-each}
 use Rattle.model.specs.Workspace.{advance}
@@ -26,7 +26,7 @@ use Rattle.table.specs.Lawful.{Lawful}
 use Rattle.table.proofs.Blocks.{bytes-block}
 use Rattle.table.proofs.Accepted.{lawful, answered-none, accepted-none}
 use Rattle.table.proofs.Held.{Holds, holds-none, none-holds, task-asked, mode-asked}
-use Rattle.options.specs.Tasks.{optionOf, taskOf, tasksOf, tasksOfTable, coresOfTable, cellsOfTable}
+use Rattle.choices.specs.Tasks.{choiceOf, taskOf, tasksOf, tasksOfTable, coresOfTable, cellsOfTable}
 use Rattle.portions.specs.Portion.{ruleOf}
 use Rattle.portions.proofs.Laws.{step-went}
 use Rattle.demands.specs.Demand2.{ReadsAs, WrittenAs, EveryLawfulTableIsAccepted, WrittenAndReadBack, ReadAndRewritten, APortionFillsJustTheCellsItPaysFor, Demand2}
@@ -140,8 +140,8 @@ every-lawful-table-is-accepted t l =
     (tableOf t, bytes-together (blockOf t) (block-bytes t) 0 (t .tasks + 1), w, written-and-read-back t (tableOf t) l w .front)
 
 -- ---- read, then written
--- an option by what it is made of
-abbrev optionBy : ℕ → ℕ → ℕ → ℕ → Figures → Figures → Option
+-- an choice by what it is made of
+abbrev optionBy : ℕ → ℕ → ℕ → ℕ → Figures → Figures → Choice
 optionBy H j E permitted nominal own =
     record {
       permitted = allows permitted j;
@@ -210,18 +210,18 @@ module _ (bytes : List ℕ) (b : Bytes bytes) (p : NoneGiven (tableRows bytes)) 
           rw modes-same
           (ap flat (each-same (figuresIn (taskBlock bytes i)) (t .task i .figures) 0 (t .task i .modes) (λ j low high. mode-same j (omega arith))))
 
-      -- and so are the options, with any common period
-      option-same : (H j : ℕ) → j < t .task i .modes → optionOf H (numbersIn bytes .task i) j ≡ optionOf H (t .task i) j
-      option-same H j few =
+      -- and so are the choices, with any common period
+      choice-same : (H j : ℕ) → j < t .task i .modes → choiceOf H (numbersIn bytes .task i) j ≡ choiceOf H (t .task i) j
+      choice-same H j few =
           let f = figuresIn (taskBlock bytes i) in
           ap₂ (λ (E permitted : ℕ). optionBy H j E permitted (f 0) (f j)) elasticity-same permitted-same
           ∙ ap₂ (λ (nominal own : Figures). optionBy H j (t .task i .elasticity) (t .task i .permitted) nominal own) (mode-same 0 (omega arith)) (mode-same j few)
 
-      options-same : (H : ℕ) → taskOf H (numbersIn bytes .task i) ≡ taskOf H (t .task i)
+      choices-same : (H : ℕ) → taskOf H (numbersIn bytes .task i) ≡ taskOf H (t .task i)
       unfolding taskOf
-      options-same H =
+      choices-same H =
           rw modes-same
-          (each-same (optionOf H (numbersIn bytes .task i)) (optionOf H (t .task i)) 0 (t .task i .modes) (λ j low high. option-same H j (omega arith)))
+          (each-same (choiceOf H (numbersIn bytes .task i)) (choiceOf H (t .task i)) 0 (t .task i .modes) (λ j low high. choice-same H j (omega arith)))
 
     -- the planner sees the same tasks
     pub tasks-read : tasksOfTable bytes ≡ tasksOf t
@@ -229,7 +229,7 @@ module _ (bytes : List ℕ) (b : Bytes bytes) (p : NoneGiven (tableRows bytes)) 
     tasks-read =
         rw (tasks-same, common-same)
         (each-same (λ i. taskOf (t .common) (numbersIn bytes .task i)) (λ i. taskOf (t .common) (t .task i)) 0 (t .tasks)
-        (λ i low high. options-same i (omega arith) (t .common)))
+        (λ i low high. choices-same i (omega arith) (t .common)))
 
     rewritten : WrittenAs t bytes
     rewritten =

@@ -1,5 +1,5 @@
 -- Demand 3. Assumes nothing.
-use Prim.Native.Nat.{ℕ, _-_, _≤_, _<_}
+use Prim.Native.Nat.{ℕ, _-_, _≤_, _<_, min}
 use native.Mathlib.Omega.{arith}
 use native.Mathlib.Nat.{mul-le-mul}
 use mathlib.Core.Path.{_≡_, sym, ap, subst, _∙_}
@@ -7,91 +7,59 @@ use mathlib.Core.Logic.{_⊎_, inl, inr, _↔_}
 use mathlib.Core.List.{List, [], _∷_, _++_}
 use borrow.Author.Tests.{le-ltb}
 use lib.ListN.{length, getD}
-use Rattle.answer.specs.Said.{refused, plan}
-use Rattle.answer.specs.Order.{Outcome, NoneGiven}
-use Rattle.answer.proofs.Rows.{kind, none-first, append-none, plan-refused}
-use Rattle.answer.proofs.Outcomes.{gone, unchanged, beyond}
+use Rattle.answer.specs.Said.{refused}
+use Rattle.answer.specs.Order.{NoneGiven}
+use Rattle.answer.proofs.Rows.{none-first, append-none, plan-refused}
+use Rattle.answer.proofs.Outcomes.{beyond}
 use Rattle.model.specs.Plan.{NothingFits}
-use Rattle.model.specs.Workspace.{cellCount, cellIn, advance, progressAfter}
-use Rattle.model.specs.Taking.{used, takeRows, takeSaid, takeModes, Holds, Right}
+use Rattle.model.specs.Workspace.{cellCount, advance}
+use Rattle.model.specs.Taking.{takeRows}
+use Rattle.model.specs.inner.Portions.{progressAfter}
 use Rattle.model.proofs.Fills.{progress-within, portions-fill, fill-length}
-use Rattle.model.proofs.Values.{filled-holds}
-use Rattle.model.proofs.Taken.{take-right}
 use Rattle.table.specs.Order.{tableRows}
 use Rattle.table.specs.Numbers.{numbersIn}
-use Rattle.table.specs.Lawful.{LawfulTable}
+use Rattle.table.specs.inner.Accepted.{LawfulTable}
 use Rattle.table.proofs.Accepted.{lawful, answered-none}
-use Rattle.options.specs.Tasks.{tasksOfTable, coresOfTable, cellsOfTable}
-use Rattle.options.proofs.Tables.{tasks-length, limits}
+use Rattle.choices.specs.Tasks.{tasksOfTable, coresOfTable, cellsOfTable}
 use Rattle.portions.specs.Portion.{ownRows, portionRows, ruleOf, FilledTo}
-use Rattle.portions.specs.Runs.{Run}
-use Rattle.portions.proofs.Laws.{step-went, run-is}
+use Rattle.portions.specs.Runs.{Run, RunTo, spent}
+use Rattle.portions.proofs.Laws.{step-went, run-is, there-is-a-run}
 use Rattle.taking.specs.declared.Taken.{Taken}
 use Rattle.taking.specs.Said.{said}
-use Rattle.taking.specs.Take.{cellOf, lentRows, takingRows, withModes, TookPlan}
-use Rattle.demands.specs.Whole.{PlanGiven, NoPlanFits}
-use Rattle.demands.specs.Demand3.{RightAnswer, NoPortionIsRefused, Asked, ThePlanIsRight, Demand3}
+use Rattle.taking.specs.Take.{cellOf, lentRows, progressRows, takingRows, TookPlan}
+use Rattle.taking.specs.inner.From.{TookFrom}
+use Rattle.taking.proofs.Answers.{held-in-type}
+use Rattle.taking.proofs.Lent.{none-all}
+use Rattle.taking.proofs.Settled.{some-taken}
+use Rattle.whole.specs.Whole.{PlanGiven, NoPlanFits}
+use Rattle.whole.proofs.Filled.{taken}
+use Rattle.demands.specs.Demand3.{RightAnswer, NoPortionIsRefused, Asked, ThePlanIsRight, ThereIsAnOutcome, Demand3}
 
 -- ---- over cells that hold their defined values
-module _ (bytes cells : List ℕ) (table : LawfulTable bytes) (f : FilledTo bytes cells (cellsOfTable bytes)) where
-  abbrev rows : ℕ → ℕ → ℕ
-  rows = cellOf bytes cells
+module _ (bytes cells : List ℕ) (table : LawfulTable bytes) (f : FilledTo bytes cells (cellsOfTable bytes)) (none : NoneGiven (tableRows bytes))
+    (room : cellsOfTable bytes ≤ length cells) (out : List ℕ) (r : Taken) (out' : List ℕ)
+    (space : numbersIn bytes .tasks ≤ length out) (took : TookPlan bytes cells (cellsOfTable bytes) out r out') where
+  -- none of the rows up to 17 is given, so 14 and 18 decide
+  by-cells : TookFrom bytes cells out r out'
+  unfolding takingRows
+  by-cells =
+      let W = cellsOfTable bytes in
+      let progress = progressRows W W in
+      let own = takeRows (cellOf bytes cells) (tasksOfTable bytes) (coresOfTable bytes) in
+      let same : W ≤ W = omega arith in
+      beyond progress own _ out _ (le-ltb _ _ same, (le-ltb _ _ same, tt))
+      (beyond (lentRows bytes (length cells) (length out)) (progress ++ own) _ out _ (none-all bytes (length cells) (length out) none room space) took)
 
-  holds : Holds rows (tasksOfTable bytes) (coresOfTable bytes)
-  holds =
-      subst (λ (n : ℕ). Holds (cellIn n (coresOfTable bytes) cells) (tasksOfTable bytes) (coresOfTable bytes)) (tasks-length (numbersIn bytes))
-      (filled-holds (tasksOfTable bytes) (coresOfTable bytes) cells
-      (subst (λ (n : ℕ). FilledTo bytes cells (cellCount n (coresOfTable bytes))) (sym (tasks-length (numbersIn bytes))) f))
+  exactly : ((s : List ℕ) × PlanGiven bytes s out r out') ⊎ NoPlanFits bytes out r out'
+      → (said r ≡ refused 14 0) ↔ NothingFits (tasksOfTable bytes) (coresOfTable bytes)
+  exactly (inl (s, g)) =
+      (λ e. plan-refused (g .answer) e, λ n. absurd (n s (g .plan-is .selection) (g .plan-is .fits)))
+  exactly (inr g) = (λ e. g .nothing, λ n. g .answer)
 
-  right : Right (tasksOfTable bytes) (coresOfTable bytes) (takeSaid rows (tasksOfTable bytes) (coresOfTable bytes)) (takeModes rows (tasksOfTable bytes) (coresOfTable bytes))
-  right = take-right rows (tasksOfTable bytes) (coresOfTable bytes) (limits (numbersIn bytes) (table .numbers)) holds
-
-  module _ (none : NoneGiven (tableRows bytes)) (room : cellsOfTable bytes ≤ length cells) (out : List ℕ) (r : Taken) (out' : List ℕ)
-      (space : numbersIn bytes .tasks ≤ length out) (took : TookPlan bytes cells (cellsOfTable bytes) out r out') where
-    -- none of the rows up to 17 is given, so 14 and 18 decide
-    by-cells :
-        Outcome (takeRows rows (tasksOfTable bytes) (coresOfTable bytes)) (plan (used (rows 0) (coresOfTable bytes)) (rows 0 (coresOfTable bytes))) out
-        (withModes (takeModes rows (tasksOfTable bytes) (coresOfTable bytes)) out) (said r) out'
-    unfolding takingRows
-    by-cells =
-        let W = cellsOfTable bytes in
-        let lent = lentRows W (numbersIn bytes .tasks) (length cells) (length out) W in
-        let own = takeRows rows (tasksOfTable bytes) (coresOfTable bytes) in
-        let same : W ≤ W = omega arith in
-        beyond lent own _ out _ (le-ltb _ _ room, (le-ltb _ _ space, (le-ltb _ _ same, (le-ltb _ _ same, tt))))
-        (beyond (tableRows bytes) (lent ++ own) _ out _ none took)
-
-    taken : ((s : List ℕ) × PlanGiven bytes s out r out') ⊎ NoPlanFits bytes out r out'
-    taken = go right
-      where
-        go : Right (tasksOfTable bytes) (coresOfTable bytes) (takeSaid rows (tasksOfTable bytes) (coresOfTable bytes)) (takeModes rows (tasksOfTable bytes) (coresOfTable bytes))
-            → ((s : List ℕ) × PlanGiven bytes s out r out') ⊎ NoPlanFits bytes out r out'
-        go (inl (p, e)) =
-            let answer = by-cells .says ∙ e in
-            inl (
-              takeModes rows (tasksOfTable bytes) (coresOfTable bytes),
-              record {
-                plan-is = p;
-                answer = answer;
-                modes = gone (takeRows rows (tasksOfTable bytes) (coresOfTable bytes)) _ out _ (λ z. omega (arith, ap kind answer)) by-cells .1;
-              },
-            )
-        go (inr (n, e)) =
-            let answer = by-cells .says ∙ e in
-            inr record {
-              nothing = n;
-              answer = answer;
-              kept = unchanged (takeRows rows (tasksOfTable bytes) (coresOfTable bytes)) _ out _ (λ z. omega (arith, ap kind answer)) by-cells;
-            }
-
-    exactly : ((s : List ℕ) × PlanGiven bytes s out r out') ⊎ NoPlanFits bytes out r out'
-        → (said r ≡ refused 14 0) ↔ NothingFits (tasksOfTable bytes) (coresOfTable bytes)
-    exactly (inl (s, g)) =
-        (λ e. plan-refused (g .answer) e, λ n. absurd (n s (g .plan-is .lawful) (g .plan-is .fits)))
-    exactly (inr g) = (λ e. g .nothing, λ n. g .answer)
-
-    pub right-answer : RightAnswer bytes out r out'
-    right-answer = record { right = taken; exactly = exactly taken }
+  right-answer : RightAnswer bytes out r out'
+  right-answer =
+      let t = taken bytes cells table f out r out' by-cells in
+      record { right = t; exactly = exactly t }
 
 -- ---- over a run of portions
 -- the cells below the progress hold their defined values
@@ -147,5 +115,14 @@ no-portion-is-refused bytes cells accepted room budgets filling p run b r after 
           (append-none (tableRows bytes) (ownRows (cellsOfTable bytes) (length filling) p) none (le-ltb _ _ long, (le-ltb _ _ (w .1), tt))),
     )
 
+-- ---- and it is there
+pub there-is-an-outcome : ThereIsAnOutcome
+there-is-an-outcome bytes cells budgets out is accepted room enough space =
+    let W : ℕ = cellsOfTable bytes in
+    let all : min (spent budgets) W ≡ W = omega arith in
+    let r = subst (RunTo bytes budgets cells) all (there-is-a-run bytes cells budgets is accepted room) in
+    let o = some-taken bytes (r .filling) W out is in
+    record { portions = r; answer = o .answer; in-type = held-in-type (o .answer) (o .held); left = o .left; took = o .allowed }
+
 pub demand-3 : Demand3
-demand-3 = record { plan = the-plan-is-right; portions = no-portion-is-refused }
+demand-3 = record { plan = the-plan-is-right; portions = no-portion-is-refused; not-empty = there-is-an-outcome }

@@ -5,10 +5,10 @@ use mathlib.Core.List.{List, [], _∷_}
 use Prim.Native.Nat.{ℕ}
 use Rattle.model.specs.Turns.{eachFrom}
 use Rattle.model.specs.Plan.{IsPlan, NothingFits, totalCores, totalCost}
-use Rattle.model.specs.Listing.{some, none, numbers, each, selections, then, lower, asGood, better, bestOf, planOf}
+use Rattle.model.specs.inner.Listing.{some, none, numbers, each, selections, then, lower, asGood, better, bestOf, planOf}
 use Rattle.model.proofs.Listing.{plan-of-some, plan-of-none}
 use Rattle.block.specs.Tests.{allows}
-use Rattle.options.specs.Tasks.{taskOf, tasksOf}
+use Rattle.choices.specs.Tasks.{taskOf, tasksOf}
 use Rattle.demands.specs.Examples.{taskWith, sampleTasks, sample, listing, TheExamplesHold}
 
 found : (m : ℕ) (s : List ℕ) → planOf (tasksOf (sample m)) m ≡ some s → IsPlan (tasksOf (sample m)) m s

@@ -3,9 +3,6 @@ pub mod Writers
 pub mod Demand1
 pub mod Demand2
 pub mod Demand3
-pub mod Fillings
-pub mod Wholes
-pub mod Settled
 pub mod Examples
 pub mod Shut
 pub mod Sample

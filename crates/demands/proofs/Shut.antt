@@ -9,22 +9,23 @@ use lib.Seq.{take-append-seam}
 use Rattle.answer.specs.Said.{plan}
 use Rattle.answer.specs.Order.{NoneGiven}
 use Rattle.answer.proofs.Rows.{plan-refused}
-use Rattle.model.specs.Plan.{Task, Lawful as LawfulSelection, Fits, IsPlan, totalCores, totalCost}
+use Rattle.model.specs.Plan.{Task, IsSelection, Fits, IsPlan, totalCores, totalCost}
 use Rattle.model.proofs.Order.{one-plan}
+use Rattle.model.proofs.Best.{selection-length}
 use Rattle.block.specs.Bytes.{Bytes}
 use Rattle.block.specs.Tests.{allows, anyAllowed}
-use Rattle.table.specs.Order.{tableRows}
+use Rattle.table.specs.Order.{tableRows, Accepted}
 use Rattle.table.specs.Numbers.{numbersIn}
 use Rattle.table.specs.Lawful.{LawfulTask, LawfulFigures, Lawful}
 use Rattle.table.proofs.Limits.{task-lawful, figures-lawful}
 use Rattle.table.proofs.Accepted.{answered-none}
-use Rattle.options.specs.Tasks.{tasksOf, tasksOfTable, coresOfTable}
-use Rattle.options.proofs.Tables.{tasks-length, task-at, task-length}
+use Rattle.choices.specs.Tasks.{tasksOf, tasksOfTable, coresOfTable}
+use Rattle.choices.proofs.Tables.{tasks-length, task-at, task-length}
 use Rattle.taking.specs.declared.Taken.{Taken}
 use Rattle.taking.specs.Said.{said}
 use Rattle.taking.specs.Take.{withModes}
-use Rattle.demands.specs.Demand2.{ReadsAs, Accepted}
-use Rattle.demands.specs.Whole.{PlanGiven, NoPlanFits}
+use Rattle.demands.specs.Demand2.{ReadsAs}
+use Rattle.whole.specs.Whole.{PlanGiven, NoPlanFits}
 use Rattle.demands.specs.Demand3.{Asked}
 use Rattle.demands.specs.Examples.{taskWith, sampleTasks, sample}
 use Rattle.demands.specs.ShutOut.{NoneRefusesEverything, NoneHasAConstantPlan, NoneWritesNothing, NoneFillsAllAtOnce, NoneInventsProgress, NoneInventsCoresOrCost, ShutOut}
@@ -44,7 +45,7 @@ given-unless {bytes} {out} {r} {out'} a some = go (the-plan-is-right bytes out r
 
 -- where a permitted choice fits
 given : {bytes out : List ℕ} {r : Taken} {out' : List ℕ} → Asked bytes out r out'
-    → (s : List ℕ) → LawfulSelection (tasksOfTable bytes) s → Fits (tasksOfTable bytes) (coresOfTable bytes) s → (t : List ℕ) × PlanGiven bytes t out r out'
+    → (s : List ℕ) → IsSelection (tasksOfTable bytes) s → Fits (tasksOfTable bytes) (coresOfTable bytes) s → (t : List ℕ) × PlanGiven bytes t out r out'
 given a s l f = given-unless a (λ n. n .nothing s l f)
 
 -- where a plan is answered
@@ -53,15 +54,9 @@ answered : {bytes out : List ℕ} {r : Taken} {out' : List ℕ} {u v : ℕ} → 
 answered a e = given-unless a (λ n. plan-refused e (n .answer))
 
 -- its modes are one per task, and they are what is written
-modes-many : (ts : List Task) (s : List ℕ) → LawfulSelection ts s → length s ≡ length ts
-modes-many [] [] l = refl
-modes-many [] (j ∷ s) l = absurd l
-modes-many (t ∷ ts) [] l = absurd l
-modes-many (t ∷ ts) (j ∷ s) l = ap suc (modes-many ts s (l .2))
-
 modes-written : (bytes s out : List ℕ) (r : Taken) (out' : List ℕ) → PlanGiven bytes s out r out' → take (numbersIn bytes .tasks) out' ≡ s
 modes-written bytes s out r out' g =
-    let n : numbersIn bytes .tasks ≡ length s = sym (modes-many (tasksOfTable bytes) s (g .plan-is .lawful) ∙ tasks-length (numbersIn bytes)) in
+    let n : numbersIn bytes .tasks ≡ length s = sym (selection-length (tasksOfTable bytes) s (g .plan-is .selection) ∙ tasks-length (numbersIn bytes)) in
     rw (g .modes, n) (take-append-seam s (drop (length s) out))
 
 -- ---- each program
@@ -76,10 +71,10 @@ none-writes-nothing bytes out r out' u v a e first same =
     let some = l .numbers .header .tasks-low in
     let low : length (getD (tasksOfTable bytes) 0 []) ≤ 16 =
     rw (task-at (numbersIn bytes) 0 some, task-length (numbersIn bytes .common) (numbersIn bytes .task 0)) (l .numbers .task 0 some .modes-high) in
-    go (tasksOfTable bytes) (g .0) (omega (arith, tasks-length (numbersIn bytes), some)) low (g .1 .plan-is .lawful)
+    go (tasksOfTable bytes) (g .0) (omega (arith, tasks-length (numbersIn bytes), some)) low (g .1 .plan-is .selection)
     (ap (λ (x : List ℕ). getD x 0 0) (sym (g .1 .modes) ∙ same) ∙ first)
   where
-    go : (ts : List Task) (s : List ℕ) → 1 ≤ length ts → length (getD ts 0 []) ≤ 16 → LawfulSelection ts s → getD (withModes s out) 0 0 ≡ 255 → ⊥
+    go : (ts : List Task) (s : List ℕ) → 1 ≤ length ts → length (getD ts 0 []) ≤ 16 → IsSelection ts s → getD (withModes s out) 0 0 ≡ 255 → ⊥
     go [] s many low l e = omega arith
     go (t ∷ ts) [] many low l e = l
     go (t ∷ ts) (j ∷ s) many low l e = omega (arith, l .0)
@@ -158,7 +153,7 @@ module _ (m : ℕ) (low : 1 ≤ m) (high : m ≤ 64) where
       → take (numbersIn Table .tasks) out' ≡ s
   wrote s is out r out' a =
       let own : IsPlan (tasksOfTable Table) (coresOfTable Table) s = subst₂ (λ (ts : List Task) (k : ℕ). IsPlan ts k s) (sym tasks-are) (sym cores-are) is in
-      let g = given a s (own .lawful) (own .fits) in
+      let g = given a s (own .selection) (own .fits) in
       modes-written Table (g .0) out r out' (g .1) ∙ one-plan (tasksOfTable Table) (coresOfTable Table) (g .0) s (g .1 .plan-is) own
 
 none-has-a-constant-plan : NoneHasAConstantPlan

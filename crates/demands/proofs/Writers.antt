@@ -3,12 +3,13 @@ use Prim.Native.Nat.{ℕ, _≤_, _<_}
 use native.Mathlib.Omega.{arith}
 use mathlib.Core.Path.{_≡_, refl, sym, ap, _∙_}
 use mathlib.Core.List.{List, _++_, append-nil}
-use borrow.Author.Tests.{le-ltb, eq-eqb}
+use borrow.Author.Tests.{lt-leb, le-ltb, eq-eqb}
 use lib.ListN.{length, drop, replicate}
 use Rattle.answer.specs.Said.{written}
 use Rattle.answer.specs.Order.{Row, Outcome, NoneGiven}
 use Rattle.answer.proofs.Rows.{append-none}
 use Rattle.answer.proofs.Outcomes.{goes, gone}
+use Rattle.model.specs.Limits.{mostTasks}
 use Rattle.block.specs.Layout.{threes}
 use Rattle.block.specs.Tests.{modesRows}
 use Rattle.block.specs.Whole.{headerBytes, taskBytes}
@@ -72,7 +73,7 @@ module _ (n m H i : ℕ) (t : TaskNumbers) (h : LawfulHeader n m H) (less : i < 
       let numbers : NoneGiven of-numbers = (
         common-passes h,
         (
-          le-ltb 31 i (omega (arith, h .tasks-high)),
+          lt-leb mostTasks i (omega (arith, h .tasks-high)),
           (rw (shape-passes l, eq-eqb _ _ (length-flat (t .figures) 0 (t .modes))), (permitted-passes l, tt)),
         ),
       ) in

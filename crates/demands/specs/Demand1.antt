@@ -2,10 +2,9 @@
 use Prim.Native.Nat.{ℕ, _≤_}
 use mathlib.Core.Path.{_≡_}
 use mathlib.Core.Logic.{_⊎_}
-use mathlib.Core.Bool.{Bool, false, _||_}
 use mathlib.Core.List.{List, [], _∷_}
-use lib.Dec.{T, eqb}
 use Rattle.answer.specs.Said.{Said, refused}
+use Rattle.answer.specs.Order.{OneOf}
 use Rattle.table.specs.Order.{tableSaid, askTaskSaid, askModeSaid}
 use Rattle.table.specs.Numbers.{numbersIn}
 use Rattle.writer.specs.declared.Written.{Written}
@@ -17,16 +16,9 @@ use Rattle.portions.specs.Portion.{Portioned}
 use Rattle.taking.specs.declared.Taken.{Taken}
 use Rattle.taking.specs.Said as taking
 use Rattle.taking.specs.Take.{TookPlan}
-use Rattle.demands.specs.Whole.{PlannedWhole}
+use Rattle.whole.specs.Whole.{PlannedWhole}
 
 -- ---- numbers and places
-abbrev pub isOneOf : List ℕ → ℕ → Bool
-isOneOf [] k = false
-isOneOf (x ∷ xs) k = eqb k x || isOneOf xs k
-
-abbrev pub OneOf : List ℕ → ℕ → Type 0
-OneOf xs k = T (isOneOf xs k)
-
 -- these numbers, and they name block 0
 abbrev pub AtFront : List ℕ → ℕ → ℕ → Type 0
 AtFront xs k at = OneOf xs k × (at ≡ 0)

@@ -8,10 +8,10 @@ use lib.ListN.{length, drop, getD}
 use Rattle.answer.specs.Said.{header, task, figures}
 use Rattle.model.specs.Workspace.{advance}
 use Rattle.block.specs.Bytes.{Bytes}
-use Rattle.table.specs.Order.{headerBlock, taskBlock, tableSaid, askTaskSaid, askModeSaid}
+use Rattle.table.specs.Order.{headerBlock, taskBlock, tableSaid, Accepted, askTaskSaid, askModeSaid}
 use Rattle.table.specs.Numbers.{TaskNumbers, figuresOf, Numbers}
 use Rattle.table.specs.Lawful.{Lawful}
-use Rattle.options.specs.Tasks.{cellsOfTable}
+use Rattle.choices.specs.Tasks.{cellsOfTable}
 use Rattle.writer.specs.declared.Written.the-variants.{Done}
 use Rattle.writer.specs.Order.{WroteHeader, WroteTask}
 use Rattle.portions.specs.Portion.{ruleOf}
@@ -50,10 +50,6 @@ EveryLawfulTableIsAccepted =
 -- written and read back it gives the same numbers
 abbrev pub WrittenAndReadBack : Type 0
 WrittenAndReadBack = (t : Numbers) (bytes : List ℕ) → Lawful t → WrittenAs t bytes → ReadsAs bytes t
-
--- accepted by `check`
-abbrev pub Accepted : List ℕ → Type 0
-Accepted bytes = (n : ℕ) × (m : ℕ) × (H : ℕ) × (tableSaid bytes ≡ header n m H)
 
 -- read and rewritten, the same bytes: an accepted table can be asked for all its numbers; of these the writers write each of its blocks
 -- again and refuse none, and no other bytes

@@ -11,16 +11,16 @@ use Rattle.answer.specs.Said.{refused, filled}
 use Rattle.model.specs.Plan.{NothingFits}
 use Rattle.block.specs.Bytes.{Bytes}
 use Rattle.table.specs.Numbers.{numbersIn}
-use Rattle.options.specs.Tasks.{tasksOfTable, coresOfTable, cellsOfTable}
+use Rattle.choices.specs.Tasks.{tasksOfTable, coresOfTable, cellsOfTable}
 use Rattle.portions.specs.declared.Filling.{Filling}
 use Rattle.portions.specs.Said as portions
 use Rattle.portions.specs.Portion.{Portioned}
-use Rattle.portions.specs.Runs.{Run}
+use Rattle.portions.specs.Runs.{Run, RunTo, spent}
 use Rattle.taking.specs.declared.Taken.{Taken}
 use Rattle.taking.specs.Said as taking
 use Rattle.taking.specs.Take.{TookPlan}
-use Rattle.demands.specs.Demand2.{Accepted}
-use Rattle.demands.specs.Whole.{PlanGiven, NoPlanFits}
+use Rattle.table.specs.Order.{Accepted}
+use Rattle.whole.specs.Whole.{PlanGiven, NoPlanFits}
 
 -- what is answered is the plan with its cores and its cost, or 14; and 14 exactly when no permitted choice fits
 pub record RightAnswer (bytes out : List ℕ) (r : Taken) (out' : List ℕ) : Type 0 where
@@ -49,6 +49,22 @@ pub record Asked (bytes out : List ℕ) (r : Taken) (out' : List ℕ) : Type 0 w
 abbrev pub ThePlanIsRight : Type 0
 ThePlanIsRight = (bytes out : List ℕ) (r : Taken) (out' : List ℕ) → Asked bytes out r out' → RightAnswer bytes out r out'
 
+-- nothing of this is empty: lent an accepted table, a workspace with room, any budgets that add up to at least W and an output with room,
+-- there is a run with these budgets to W, and an outcome of taking the plan from what it filled; each answer is one that the code's type
+-- can hold
+pub record Outcomes (bytes cells budgets out : List ℕ) : Type 0 where
+  pub portions : RunTo bytes budgets cells (cellsOfTable bytes)
+  pub answer : Taken
+  pub in-type : taking.InType answer
+  pub left : List ℕ
+  pub took : TookPlan bytes (portions .filling) (cellsOfTable bytes) out answer left
+
+abbrev pub ThereIsAnOutcome : Type 0
+ThereIsAnOutcome =
+    (bytes cells budgets out : List ℕ) → Bytes bytes → Accepted bytes → cellsOfTable bytes ≤ length cells → cellsOfTable bytes ≤ spent budgets
+    → numbersIn bytes .tasks ≤ length out → Outcomes bytes cells budgets out
+
 pub record Demand3 : Type 0 where
   pub plan : ThePlanIsRight
   pub portions : NoPortionIsRefused
+  pub not-empty : ThereIsAnOutcome

@@ -8,7 +8,7 @@ use Rattle.model.specs.Rules.{coresSaid}
 use Rattle.model.specs.Taking.{Right}
 use Rattle.block.specs.Layout.{Figures, listed}
 use Rattle.table.specs.Numbers.{TaskNumbers, Numbers}
-use Rattle.options.specs.Tasks.{tasksOf}
+use Rattle.choices.specs.Tasks.{tasksOf}
 
 -- a task with these modes
 unfoldable pub taskWith : ℕ → ℕ → ℕ → List Figures → TaskNumbers
@@ -31,9 +31,9 @@ pub data Line : Type 0 where
   sampleWith : ℕ → Said → List ℕ → Line
 
 -- what a line claims
-abbrev pub Holds : Line → Type 0
-Holds (cores C L T answer) = coresSaid C L T ≡ answer
-Holds (sampleWith m answer modes) = Right (tasksOf (sample m)) m answer modes
+abbrev pub LineHolds : Line → Type 0
+LineHolds (cores C L T answer) = coresSaid C L T ≡ answer
+LineHolds (sampleWith m answer modes) = Right (tasksOf (sample m)) m answer modes
 
 unfoldable pub listing : List Line
 listing =
@@ -55,7 +55,7 @@ listing =
 -- the claim: every line holds
 abbrev pub Every : List Line → Type 0
 Every [] = Unit {0}
-Every (l ∷ ls) = Holds l × Every ls
+Every (l ∷ ls) = LineHolds l × Every ls
 
 abbrev pub TheExamplesHold : Type 0
 TheExamplesHold = Every listing

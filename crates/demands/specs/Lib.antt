@@ -6,10 +6,6 @@ pub mod Demand1
 pub mod Demand2
 -- what is taken at the end is the plan
 pub mod Demand3
--- what `plan_whole` makes of portions
-pub mod Portions
--- what `plan_whole` promises
-pub mod Whole
 -- the starred examples
 pub mod Examples
 -- the programs that have to be shut out

@@ -9,12 +9,13 @@ use Rattle.model.specs.Plan as plans
 use Rattle.model.specs.Workspace.{advance, valueOf}
 use Rattle.block.specs.Bytes.{Bytes}
 use Rattle.table.specs.Numbers.{numbersIn}
-use Rattle.options.specs.Tasks.{tasksOfTable, coresOfTable, cellsOfTable}
+use Rattle.choices.specs.Tasks.{tasksOfTable, coresOfTable, cellsOfTable}
 use Rattle.portions.specs.Portion.{FilledTo}
 use Rattle.portions.specs.Runs.{Step}
 use Rattle.taking.specs.declared.Taken.{Taken}
 use Rattle.taking.specs.Said.{said}
-use Rattle.demands.specs.Demand2.{EveryLawfulTableIsAccepted, Accepted}
+use Rattle.demands.specs.Demand2.{EveryLawfulTableIsAccepted}
+use Rattle.table.specs.Order.{Accepted}
 use Rattle.demands.specs.Demand3.{NoPortionIsRefused, Asked}
 
 -- one that refuses everything: every lawful table is written and accepted, no portion of it is refused, and where a permitted choice
@@ -23,7 +24,7 @@ abbrev pub NoneRefusesEverything : Type 0
 NoneRefusesEverything =
     EveryLawfulTableIsAccepted × NoPortionIsRefused
     × ((bytes out : List ℕ) (r : Taken) (out' : List ℕ) → Asked bytes out r out'
-    → (s : List ℕ) → plans.Lawful (tasksOfTable bytes) s → plans.Fits (tasksOfTable bytes) (coresOfTable bytes) s → (k at : ℕ) → said r ≢ refused k at)
+    → (s : List ℕ) → plans.IsSelection (tasksOfTable bytes) s → plans.Fits (tasksOfTable bytes) (coresOfTable bytes) s → (k at : ℕ) → said r ≢ refused k at)
 
 -- one with a constant plan: there are two accepted tables, of as many tasks, for which the modes written differ
 abbrev pub NoneHasAConstantPlan : Type 0

@@ -5,7 +5,7 @@ use native.Mathlib.Nat.{le-trans, le-of-lt, lt-of-le-of-lt, mul-le-mul, mul-le-m
 use native.Mathlib.Omega.{arith}
 use lib.Pow.{pow-pos, pow-add}
 use Rattle.model.specs.Rules.{apart, demandOf, costOf}
-use Rattle.model.specs.Plan.{dearest}
+use Rattle.model.specs.inner.Costs.{dearest}
 
 -- the product of two numbers of k bits has at most k + k
 pub below : (k : ℕ) {a b : ℕ} → a < 2 ^ k → b < 2 ^ k → a * b < 2 ^ (k + k)

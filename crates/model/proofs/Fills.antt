@@ -7,7 +7,8 @@ use native.Mathlib.Nat.{add-zero, zero-add, suc-add, sub-self, le-antisymm}
 use native.Mathlib.Omega.{arith}
 use lib.ListN.{length, getD, set, drop, length-set}
 use lib.Seq.{getD-set-other, drop-set-lt}
-use Rattle.model.specs.Workspace.{Rule, fill, advance, portion, progressAfter, portions}
+use Rattle.model.specs.Workspace.{Rule, fill, advance, portion}
+use Rattle.model.specs.inner.Portions.{progressAfter, portions}
 
 module _ (rule : Rule) where
   -- two runs after each other are one

@@ -10,7 +10,7 @@ use lib.Dec.{T, leb, eqb}
 use borrow.Author.Tests.{leb-true, leb-false, eqb-true, eq-eqb}
 use lib.ListN.{length}
 use Rattle.answer.proofs.Bools.{clash}
-use Rattle.model.specs.Plan.{Option, Task, option}
+use Rattle.model.specs.Plan.{Choice, Task, choice}
 use Rattle.model.specs.Cells.{mark, ceiling, may, onward, offered, least}
 use Rattle.model.specs.Taking.{firstOf, keeps, lowest}
 use Rattle.model.proofs.Sums.{Sound, plus-sound, may-yes, may-true}
@@ -20,11 +20,11 @@ min-sound a b (inl h) k = inl (omega arith)
 min-sound a b (inr h) (inl k) = inl (omega arith)
 min-sound a b (inr h) (inr k) = inr (omega arith)
 
-onward-sound : (o : Option) (next : ℕ → ℕ) (c : ℕ) → Sound (onward o next c)
+onward-sound : (o : Choice) (next : ℕ → ℕ) (c : ℕ) → Sound (onward o next c)
 unfolding onward
 onward-sound o next c = plus-sound (o .cost) (next (c - o .need))
 
-offer-sound : (o : Option) (next : ℕ → ℕ) (c : ℕ) → Sound (offered o next c)
+offer-sound : (o : Choice) (next : ℕ → ℕ) (c : ℕ) → Sound (offered o next c)
 offer-sound o next c = go (may o c)
   where
     go : (b : Bool) → Sound (cond b (onward o next c) mark)
@@ -38,8 +38,8 @@ least-sound [] next c = inr refl
 least-sound (o ∷ os) next c = min-sound (offered o next c) (least os next c) (offer-sound o next c) (least-sound os next c)
 
 -- a lower bound
-pub least-low : (t : Task) (next : ℕ → ℕ) (c j : ℕ) → j < length t → T (option t j .permitted) → option t j .need ≤ c
-    → least t next c ≤ onward (option t j) next c
+pub least-low : (t : Task) (next : ℕ → ℕ) (c j : ℕ) → j < length t → T (choice t j .permitted) → choice t j .need ≤ c
+    → least t next c ≤ onward (choice t j) next c
 unfolding least
 least-low [] next c j h p n = absurd (not-suc-le-zero h)
 least-low (o ∷ os) next c zero h p n =
@@ -52,9 +52,9 @@ least-low (o ∷ os) next c (suc j) h p n =
 pub record Found (t : Task) (next : ℕ → ℕ) (c v : ℕ) : Type 0 where
   pub at : ℕ
   pub there : at < length t
-  pub allowed : T (option t at .permitted)
-  pub small : option t at .need ≤ c
-  pub same : onward (option t at) next c ≡ v
+  pub allowed : T (choice t at .permitted)
+  pub small : choice t at .need ≤ c
+  pub same : onward (choice t at) next c ≡ v
 
 -- which of two is the smaller
 abbrev Pick : ℕ → ℕ → Type 0
@@ -67,7 +67,7 @@ min-pick a b = go (leb a b) refl
     go true e = let h = leb-true a b e in inl (omega arith)
     go false e = let h = leb-false a b e in inr (omega arith)
 
-offer-taken : (o : Option) (next : ℕ → ℕ) (c : ℕ) → offered o next c ≤ ceiling → may o c ≡ true
+offer-taken : (o : Choice) (next : ℕ → ℕ) (c : ℕ) → offered o next c ≤ ceiling → may o c ≡ true
 offer-taken o next c = go (may o c)
   where
     go : (b : Bool) → cond b (onward o next c) mark ≤ ceiling → b ≡ true
@@ -91,30 +91,30 @@ least-found (o ∷ os) next c h = go (min-pick (offered o next c) (least os next
         record { at = suc (f .at); there = omega arith; allowed = f .allowed; small = f .small; same = f .same ∙ sym (k .1) }
 
 -- the first that passes: it passes, and stands no later than any that passes
-pub record First (f : Option → Bool) (t : Task) (j : ℕ) : Type 0 where
+pub record First (f : Choice → Bool) (t : Task) (j : ℕ) : Type 0 where
   pub early : firstOf f t ≤ j
   pub there : firstOf f t < length t
-  pub passes : f (option t (firstOf f t)) ≡ true
+  pub passes : f (choice t (firstOf f t)) ≡ true
 
-first-yes : (f : Option → Bool) (o : Option) (os : Task) → f o ≡ true → firstOf f (o ∷ os) ≡ 0
+first-yes : (f : Choice → Bool) (o : Choice) (os : Task) → f o ≡ true → firstOf f (o ∷ os) ≡ 0
 unfolding firstOf
 first-yes f o os e = simp e
 
-first-no : (f : Option → Bool) (o : Option) (os : Task) → f o ≡ false → firstOf f (o ∷ os) ≡ suc (firstOf f os)
+first-no : (f : Choice → Bool) (o : Choice) (os : Task) → f o ≡ false → firstOf f (o ∷ os) ≡ suc (firstOf f os)
 unfolding firstOf
 first-no f o os e = simp e
 
-first-here : (f : Option → Bool) (o : Option) (os : Task) (j : ℕ) → f o ≡ true → First f (o ∷ os) j
+first-here : (f : Choice → Bool) (o : Choice) (os : Task) (j : ℕ) → f o ≡ true → First f (o ∷ os) j
 first-here f o os j e =
     let z = first-yes f o os e in
     record { early = omega arith; there = omega arith; passes = rw z e }
 
-first-later : (f : Option → Bool) (o : Option) (os : Task) (j : ℕ) → f o ≡ false → First f os j → First f (o ∷ os) (suc j)
+first-later : (f : Choice → Bool) (o : Choice) (os : Task) (j : ℕ) → f o ≡ false → First f os j → First f (o ∷ os) (suc j)
 first-later f o os j e r =
     let z = first-no f o os e in
     record { early = omega arith; there = omega arith; passes = rw z (r .passes) }
 
-pub first-at : (f : Option → Bool) (t : Task) (j : ℕ) → j < length t → f (option t j) ≡ true → First f t j
+pub first-at : (f : Choice → Bool) (t : Task) (j : ℕ) → j < length t → f (choice t j) ≡ true → First f t j
 first-at f [] j h p = absurd (not-suc-le-zero h)
 first-at f (o ∷ os) zero h p = first-here f o os zero p
 first-at f (o ∷ os) (suc j) h p = go (f o) refl (first-at f os j (le-of-suc-le-suc h) p)
@@ -124,11 +124,11 @@ first-at f (o ∷ os) (suc j) h p = go (f o) refl (first-at f os j (le-of-suc-le
     go false e r = first-later f o os j e r
 
 -- a mode that keeps the cost: what the test says, both ways
-pub keeps-yes : (next : ℕ → ℕ) (c v : ℕ) (o : Option) → T (o .permitted) → o .need ≤ c → onward o next c ≡ v → keeps next c v o ≡ true
+pub keeps-yes : (next : ℕ → ℕ) (c v : ℕ) (o : Choice) → T (o .permitted) → o .need ≤ c → onward o next c ≡ v → keeps next c v o ≡ true
 unfolding keeps
 keeps-yes next c v o p n e = simp (may-yes o c p n, eq-eqb (onward o next c) v e)
 
-pub keeps-true : (next : ℕ → ℕ) (c v : ℕ) (o : Option) → keeps next c v o ≡ true → T (o .permitted) × (o .need ≤ c) × (onward o next c ≡ v)
+pub keeps-true : (next : ℕ → ℕ) (c v : ℕ) (o : Choice) → keeps next c v o ≡ true → T (o .permitted) × (o .need ≤ c) × (onward o next c ≡ v)
 unfolding keeps
 keeps-true next c v o e = go (may o c) refl e
   where
@@ -137,7 +137,7 @@ keeps-true next c v o e = go (may o c) refl e
     go false q x = clash (sym x)
 
 -- the row after it counts only up to column c
-onward-cong : (o : Option) (f g : ℕ → ℕ) (c : ℕ) → ((k : ℕ) → k ≤ c → f k ≡ g k) → onward o f c ≡ onward o g c
+onward-cong : (o : Choice) (f g : ℕ → ℕ) (c : ℕ) → ((k : ℕ) → k ≤ c → f k ≡ g k) → onward o f c ≡ onward o g c
 unfolding onward
 onward-cong o f g c h = simp (h (c - o .need) (omega arith))
 

@@ -5,6 +5,7 @@ pub mod Order
 pub mod Sums
 pub mod Least
 pub mod Best
+pub mod Fitting
 pub mod Chosen
 pub mod Listing
 pub mod Fills

@@ -11,8 +11,8 @@ use lib.ListN.{length}
 use lib.Arith.{lt-of-le-ne}
 use borrow.Author.Tests.{leb-true, leb-false, ltb-true, ltb-false, eqb-true, eqb-false}
 use Rattle.answer.proofs.Bools.{clash}
-use Rattle.model.specs.Plan.{Task, option, Lawful, Fits, NothingFits, Then, Lower, AsGood, IsPlan, totalCores, totalCost}
-use Rattle.model.specs.Listing.{numbers, each, selections, then, lower, asGood, Listed, none, some, better, bestOf, planOf}
+use Rattle.model.specs.Plan.{Task, choice, IsSelection, Fits, NothingFits, Then, Lower, AsGood, IsPlan, totalCores, totalCost}
+use Rattle.model.specs.inner.Listing.{numbers, each, selections, then, lower, asGood, Listed, none, some, better, bestOf, planOf}
 use Rattle.model.proofs.Order.{one-plan, as-good-trans}
 
 -- ---- the tests say what the order says
@@ -58,7 +58,7 @@ lower-refl : (s : List ℕ) → Lower s s
 lower-refl [] = tt
 lower-refl (j ∷ s) = inr (refl, lower-refl s)
 
--- ---- the listing has each lawful selection, and no other
+-- ---- the listing has each selection, and no other
 abbrev In : {A : Type 0} → A → List A → Type 0
 In a [] = ⊥
 In a (b ∷ l) = (a ≡ b) ⊎ In a l
@@ -115,7 +115,7 @@ each-split s (k ∷ js) ss h = go (in-append s (map (λ (r : List ℕ). k ∷ r)
         record { head = x .head; tail = x .tail; is = x .is; head-in = inr (x .head-in); tail-in = x .tail-in }
 
 -- the numbers are those of the permitted modes
-in-numbers : (i : ℕ) (t : Task) (k : ℕ) → k < length t → T (option t k .permitted) → In (i + k) (numbers i t)
+in-numbers : (i : ℕ) (t : Task) (k : ℕ) → k < length t → T (choice t k .permitted) → In (i + k) (numbers i t)
 unfolding numbers
 in-numbers i [] k h p = absurd (not-suc-le-zero h)
 in-numbers i (o ∷ os) zero h p = go (o .permitted) p
@@ -133,7 +133,7 @@ record Numbered (i : ℕ) (t : Task) (j : ℕ) : Type 0 where
   at : ℕ
   is : j ≡ i + at
   there : at < length t
-  allowed : T (option t at .permitted)
+  allowed : T (choice t at .permitted)
 
 numbers-in : (i : ℕ) (t : Task) (j : ℕ) → In j (numbers i t) → Numbered i t j
 unfolding numbers
@@ -149,21 +149,21 @@ numbers-in i (o ∷ os) j h = go (o .permitted) refl h (numbers-in (suc i) os j)
     go true e (inr q) f = later (f q)
     go false e q f = later (f q)
 
-listed : (ts : List Task) (s : List ℕ) → Lawful ts s → In s (selections ts)
+listed : (ts : List Task) (s : List ℕ) → IsSelection ts s → In s (selections ts)
 unfolding selections
 listed [] [] l = inl refl
 listed [] (j ∷ s) l = absurd l
 listed (t ∷ ts) [] l = absurd l
 listed (t ∷ ts) (j ∷ s) l = in-each j s (numbers 0 t) (selections ts) (rw zero-add at (in-numbers 0 t j (l .0) (l .1))) (listed ts s (l .2))
 
-lawful-listed : (ts : List Task) (s : List ℕ) → In s (selections ts) → Lawful ts s
+selection-listed : (ts : List Task) (s : List ℕ) → In s (selections ts) → IsSelection ts s
 unfolding selections
-lawful-listed [] s (inl e) = rw e tt
-lawful-listed (t ∷ ts) s h =
+selection-listed [] s (inl e) = rw e tt
+selection-listed (t ∷ ts) s h =
     let x = each-split s (numbers 0 t) (selections ts) h in
     let n = numbers-in 0 t (x .head) (x .head-in) in
     let e : x .head ≡ n .at = omega (arith, n .is) in
-    rw (x .is, e) (n .there, n .allowed, lawful-listed ts (x .tail) (x .tail-in))
+    rw (x .is, e) (n .there, n .allowed, selection-listed ts (x .tail) (x .tail-in))
 
 -- ---- the best of a list
 abbrev Right : List Task → ℕ → List (List ℕ) → Listed → Type 0
@@ -225,7 +225,7 @@ Answers ts m (some s) = IsPlan ts m s
 
 answers : (ts : List Task) (m : ℕ) (o : Listed) → Right ts m (selections ts) o → Answers ts m o
 answers ts m none h = λ s l f. h s (listed ts s l) f
-answers ts m (some s) h = record { lawful = lawful-listed ts s (h .0); fits = h .1; best = λ r l f. h .2 r (listed ts r l) f }
+answers ts m (some s) h = record { selection = selection-listed ts s (h .0); fits = h .1; best = λ r l f. h .2 r (listed ts r l) f }
 
 plan-of-answers : (ts : List Task) (m : ℕ) → Answers ts m (planOf ts m)
 plan-of-answers ts m = answers ts m (planOf ts m) (best-of-right ts m (selections ts))
@@ -235,7 +235,7 @@ pub plan-of-some : (ts : List Task) (m : ℕ) (s : List ℕ) → (planOf ts m �
 plan-of-some ts m s = (λ e. rw e at (plan-of-answers ts m), λ p. go (planOf ts m) (plan-of-answers ts m) p)
   where
     go : (o : Listed) → Answers ts m o → IsPlan ts m s → o ≡ some s
-    go none h p = absurd (h s (p .lawful) (p .fits))
+    go none h p = absurd (h s (p .selection) (p .fits))
     go (some r) h p = ap some (one-plan ts m r s h p)
 
 pub plan-of-none : (ts : List Task) (m : ℕ) → (planOf ts m ≡ none) ↔ NothingFits ts m
@@ -243,4 +243,4 @@ plan-of-none ts m = (λ e. rw e at (plan-of-answers ts m), λ n. go (planOf ts m
   where
     go : (o : Listed) → Answers ts m o → NothingFits ts m → o ≡ none
     go none h n = refl
-    go (some r) h n = absurd (n r (h .lawful) (h .fits))
+    go (some r) h n = absurd (n r (h .selection) (h .fits))

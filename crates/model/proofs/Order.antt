@@ -45,4 +45,4 @@ as-good-trans ts r s t =
 
 -- two plans are equal
 pub one-plan : (ts : List Task) (m : ℕ) (s s' : List ℕ) → IsPlan ts m s → IsPlan ts m s' → s ≡ s'
-one-plan ts m s s' p q = as-good-both ts s s' (p .best s' (q .lawful) (q .fits)) (q .best s (p .lawful) (p .fits))
+one-plan ts m s s' p q = as-good-both ts s s' (p .best s' (q .selection) (q .fits)) (q .best s (p .selection) (p .fits))

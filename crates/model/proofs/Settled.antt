@@ -1,7 +1,7 @@
 -- Each public promise settles its outcome. Assumes nothing.
 use mathlib.Core.Path.{_≡_, _∙_, sym, refl}
 use Rattle.answer.specs.One.{One}
-use Rattle.model.specs.Said.{said}
+use Rattle.model.specs.inner.Said.{said}
 use Rattle.model.specs.declared.Need.{Need}
 use Rattle.model.specs.declared.Need.the-variants.{Cores, Late}
 use Rattle.model.proofs.meets_period.Kinds as meets-period-kinds

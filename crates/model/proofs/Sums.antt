@@ -7,7 +7,7 @@ use native.Mathlib.Omega.{arith}
 use lib.Dec.{T, leb}
 use borrow.Author.Tests.{leb-true, leb-false, le-leb, lt-leb}
 use Rattle.answer.proofs.Bools.{clash}
-use Rattle.model.specs.Plan.{Option}
+use Rattle.model.specs.Plan.{Choice}
 use Rattle.model.specs.Cells.{mark, ceiling, reads, plus, may}
 
 -- a sum within the ceiling stays, and one above it is the mark
@@ -34,6 +34,13 @@ reads-within x h = simp (le-leb x ceiling h)
 pub reads-above : (x : ℕ) → ceiling < x → reads x ≡ mark
 unfolding reads
 reads-above x h = simp (lt-leb x ceiling h)
+
+pub reads-most : (x : ℕ) → reads x ≤ mark
+reads-most x = go (within x)
+  where
+    go : (x ≤ ceiling) ⊎ (ceiling < x) → reads x ≤ mark
+    go (inl h) = omega (arith, reads-within x h)
+    go (inr h) = omega (arith, reads-above x h)
 
 -- a number that reads as itself: within the ceiling, or the mark
 abbrev pub Sound : ℕ → Type 0
@@ -66,7 +73,7 @@ reads-sound x (inr h) = go (reads-above x (omega arith))
     go e = omega arith
 
 -- whether a mode may be taken
-pub may-yes : (o : Option) (c : ℕ) → T (o .permitted) → o .need ≤ c → may o c ≡ true
+pub may-yes : (o : Choice) (c : ℕ) → T (o .permitted) → o .need ≤ c → may o c ≡ true
 unfolding may
 may-yes o c p h = go (o .permitted) p
   where
@@ -74,7 +81,7 @@ may-yes o c p h = go (o .permitted) p
     go true t = le-leb (o .need) c h
     go false t = absurd t
 
-pub may-true : (o : Option) (c : ℕ) → may o c ≡ true → T (o .permitted) × (o .need ≤ c)
+pub may-true : (o : Choice) (c : ℕ) → may o c ≡ true → T (o .permitted) × (o .need ≤ c)
 unfolding may
 may-true o c e = go (o .permitted) e
   where

@@ -11,9 +11,11 @@ use native.Mathlib.Numerals.{add-one}
 use lib.Dec.{eqb}
 use lib.ListN.{length, drop}
 use borrow.Author.Tests.{eqb-true, eqb-false}
-use Rattle.model.specs.Plan.{Task, option, Lawful, Fits, AsGood, IsPlan, NothingFits, Limits, totalCores, totalCost}
+use Rattle.model.specs.Plan.{Task, choice, IsSelection, Fits, AsGood, IsPlan, NothingFits, totalCores, totalCost}
+use Rattle.model.specs.inner.Costs.{Limits}
 use Rattle.model.specs.Cells.{mark, ceiling, best}
-use Rattle.model.specs.Taking.{lowest, searchFrom, used, trace, takeModes, Holds}
+use Rattle.model.specs.Taking.{lowest, searchFrom, used, trace, takeModes}
+use Rattle.model.specs.inner.Filled.{RowsHold}
 use Rattle.model.proofs.Sums.{Sound, within}
 use Rattle.model.proofs.Least.{lowest-cong}
 use Rattle.model.proofs.Best.{best-sound, best-low, best-falls, cost-within}
@@ -60,8 +62,8 @@ trace-same rows i (t ∷ ts) m c h a =
     λ k d q w. subst (λ (x : ℕ). rows x d ≡ best (drop k ts) d) (add-suc i k ∙ sym (suc-add i k)) (a (suc k) d (omega arith) w) in
     let e : lowest t (rows (suc i)) c (rows i c) ≡ pick t ts c =
     lowest-cong t (rows (suc i)) (best ts) c (rows i c) after ∙ ap (λ (v : ℕ). lowest t (best ts) c v) here in
-    ap (λ (j : ℕ). j ∷ trace rows (suc i) ts (c - option t j .need)) e
-    ∙ ap (λ (r : List ℕ). pick t ts c ∷ r) (trace-same rows (suc i) ts m (c - option t (pick t ts c) .need) (omega arith) next)
+    ap (λ (j : ℕ). j ∷ trace rows (suc i) ts (c - choice t j .need)) e
+    ∙ ap (λ (r : List ℕ). pick t ts c ∷ r) (trace-same rows (suc i) ts m (c - choice t (pick t ts c) .need) (omega arith) next)
 
 -- ---- the smallest column of the defined values
 pub used-le : (row : ℕ → ℕ) (m : ℕ) → used row m ≤ m
@@ -87,13 +89,21 @@ used-cong f g m h =
     search-cong (λ c. eqb (f c) (f m)) (λ c. eqb (g c) (g m)) 0 m (λ x a. ap₂ eqb (h x (omega arith)) (h m (omega arith)))
 
 -- ---- the plan
+-- one mode for each task
+pub trace-length : (rows : ℕ → ℕ → ℕ) (i : ℕ) (ts : List Task) (c : ℕ) → length (trace rows i ts c) ≡ length ts
+unfolding trace
+trace-length rows i [] c = refl
+trace-length rows i (t ∷ ts) c =
+    let j = lowest t (rows (suc i)) c (rows i c) in
+    ap suc (trace-length rows (suc i) ts (c - choice t j .need))
+
 pub record Took (ts : List Task) (m : ℕ) (s : List ℕ) (u v : ℕ) : Type 0 where
   pub plan : IsPlan ts m s
   pub uses : totalCores ts s ≡ u
   pub costs : totalCost ts s ≡ v
 
 -- a selection of the least cost needs no fewer cores than the smallest column of that cost
-tight : (ts : List Task) (m : ℕ) (s : List ℕ) → Lawful ts s → Fits ts m s → totalCost ts s ≡ best ts m → best ts m ≤ ceiling
+tight : (ts : List Task) (m : ℕ) (s : List ℕ) → IsSelection ts s → Fits ts m s → totalCost ts s ≡ best ts m → best ts m ≤ ceiling
     → used (best ts) m ≤ totalCores ts s
 tight ts m s l f p h =
     let lo = best-low ts s (totalCores ts s) l (omega arith) (omega arith) in
@@ -102,7 +112,7 @@ tight ts m s l f p h =
 
 chosen-best : (ts : List Task) (m : ℕ) (s s' : List ℕ) → best ts m ≤ ceiling → s ≡ chosen ts (used (best ts) m) → totalCost ts s ≡ best ts m
     → totalCores ts s ≡ used (best ts) m
-    → Lawful ts s' → Fits ts m s' → AsGood ts s s'
+    → IsSelection ts s' → Fits ts m s' → AsGood ts s s'
 chosen-best ts m s s' h e p u l f =
     go (within (totalCost ts s')) (ℕ-discrete (totalCost ts s) (totalCost ts s')) (ℕ-discrete (totalCores ts s) (totalCores ts s'))
   where
@@ -123,13 +133,13 @@ chosen-plan ts m h =
     let p : totalCost ts (chosen ts u) ≡ best ts m = r .2 ∙ q in
     let e : totalCores ts (chosen ts u) ≡ u = omega (arith, r .1, tight ts m (chosen ts u) (r .0) f p h) in
     record {
-      plan = record { lawful = r .0; fits = f; best = λ s' l k. chosen-best ts m (chosen ts u) s' h refl p e l k };
+      plan = record { selection = r .0; fits = f; best = λ s' l k. chosen-best ts m (chosen ts u) s' h refl p e l k };
       uses = e;
       costs = p;
     }
 
 -- where column m of row 0 is not the mark, what is taken is the plan, and the smallest column and that cell are its cores and its cost
-pub took-plan : (rows : ℕ → ℕ → ℕ) (ts : List Task) (m : ℕ) → Holds rows ts m → rows 0 m ≢ mark
+pub took-plan : (rows : ℕ → ℕ → ℕ) (ts : List Task) (m : ℕ) → RowsHold rows ts m → rows 0 m ≢ mark
     → Took ts m (takeModes rows ts m) (used (rows 0) m) (rows 0 m)
 took-plan rows ts m a n =
     let z : rows 0 m ≡ best ts m = a 0 m (omega arith) (omega arith) in
@@ -145,5 +155,5 @@ took-plan rows ts m a n =
     go z u e (inr q) = absurd (n (z ∙ q))
 
 -- where it is the mark, no selection fits
-pub none-fits : (rows : ℕ → ℕ → ℕ) (ts : List Task) (m : ℕ) → Limits ts → Holds rows ts m → rows 0 m ≡ mark → NothingFits ts m
+pub none-fits : (rows : ℕ → ℕ → ℕ) (ts : List Task) (m : ℕ) → Limits ts → RowsHold rows ts m → rows 0 m ≡ mark → NothingFits ts m
 none-fits rows ts m l a e s w f = omega (arith, a 0 m (omega arith) (omega arith), best-low ts s m w f (cost-within ts s l), cost-within ts s l)

@@ -11,8 +11,9 @@ use lib.Seq.{getD-set-same, getD-set-other, drop-cons, drop-length}
 use lib.Arith.{digits-div, digits-mod, digits-lt}
 use Rattle.model.specs.Plan.{Task}
 use Rattle.model.specs.Cells.{best}
-use Rattle.model.specs.Workspace.{cellCount, rowOf, numberOf, cellIn, cellRule, fill, valueOf, Filled, progressAfter, portions}
-use Rattle.model.specs.Taking.{Holds}
+use Rattle.model.specs.Workspace.{cellCount, rowOf, numberOf, cellIn, cellRule, fill, valueOf, Filled}
+use Rattle.model.specs.inner.Portions.{progressAfter, portions}
+use Rattle.model.specs.inner.Filled.{RowsHold}
 use Rattle.model.proofs.Sums.{reads-sound}
 use Rattle.model.proofs.Least.{least-cong}
 use Rattle.model.proofs.Best.{best-sound}
@@ -83,7 +84,7 @@ module _ (ts : List Task) (m : ℕ) where
       ∙ fill-filled ws p (progressAfter W p bs - p) f (omega arith) l q (omega arith)
 
   -- filled to the end, each row holds what is defined for it
-  pub filled-holds : (ws : List ℕ) → Filled ts m ws (cellCount (length ts) m) → Holds (cellIn (length ts) m ws) ts m
+  pub filled-holds : (ws : List ℕ) → Filled ts m ws (cellCount (length ts) m) → RowsHold (cellIn (length ts) m ws) ts m
   unfolding cellCount
   filled-holds ws f i c h g =
       cell-in ws (cellCount (length ts) m) i c f h (omega arith)

@@ -4,9 +4,12 @@ use mathlib.Core.List.{List}
 use Prim.Native.Nat.{ℕ, _≤_}
 use native.Mathlib.Omega.{arith}
 use lib.ListN.{length, getD}
-use Rattle.model.specs.Plan.{Task, Limits}
-use Rattle.model.specs.Workspace.{cellCount, cellIn, cellRule, fill, Filled, progressAfter, portions}
-use Rattle.model.specs.Taking.{takeSaid, takeModes, Right}
+use Rattle.model.specs.Plan.{Task}
+use Rattle.model.specs.inner.Costs.{Limits}
+use Rattle.model.specs.Workspace.{cellCount, cellIn, cellRule, fill, Filled}
+use Rattle.model.specs.inner.Portions.{progressAfter, portions}
+use Rattle.model.specs.Taking.{takeModes, Right}
+use Rattle.model.specs.inner.Filled.{takeSaid}
 use Rattle.model.proofs.Values.{fill-filled, portions-filled, filled-holds}
 use Rattle.model.proofs.Taken.{take-right}
 

@@ -3,7 +3,7 @@ use mathlib.Core.Bool.{Bool, cond, _&&_}
 use mathlib.Core.List.{List, [], _∷_}
 use Prim.Native.Nat.{ℕ, _+_, _-_, min}
 use lib.Dec.{leb}
-use Rattle.model.specs.Plan.{Option, Task}
+use Rattle.model.specs.Plan.{Choice, Task}
 
 -- 2^64 - 1
 abbrev pub mark : ℕ
@@ -22,15 +22,15 @@ unfoldable pub plus : ℕ → ℕ → ℕ
 plus a b = cond (leb (a + b) ceiling) (a + b) mark
 
 -- a permitted mode needing at most c cores
-unfoldable pub may : Option → ℕ → Bool
+unfoldable pub may : Choice → ℕ → Bool
 may o c = (o .permitted) && leb (o .need) c
 
 -- that mode's cost plus the next row at column c less those cores
-unfoldable pub onward : Option → (ℕ → ℕ) → ℕ → ℕ
+unfoldable pub onward : Choice → (ℕ → ℕ) → ℕ → ℕ
 onward o next c = plus (o .cost) (next (c - o .need))
 
 -- what a mode offers there: the mark if it is none of those
-abbrev pub offered : Option → (ℕ → ℕ) → ℕ → ℕ
+abbrev pub offered : Choice → (ℕ → ℕ) → ℕ → ℕ
 offered o next c = cond (may o c) (onward o next c) mark
 
 -- the least over the modes; the mark if none may be chosen

@@ -9,40 +9,40 @@ use lib.Dec.{T}
 use lib.ListN.{length, getD}
 
 -- a mode as the planner sees it: permitted or not, the cores that it needs, its cost
-pub record Option : Type 0 where
+pub record Choice : Type 0 where
   pub permitted : Bool
   pub need : ℕ
   pub cost : ℕ
 
--- a task is the list of its options: a mode's number is its place
+-- a task is the list of its choices: a mode's number is its place
 abbrev pub Task : Type 0
-Task = List Option
+Task = List Choice
 
 -- past the last mode none is permitted
-abbrev pub absent : Option
+abbrev pub absent : Choice
 absent = record { permitted = false; need = 0; cost = 0 }
 
-abbrev pub option : Task → ℕ → Option
-option t j = getD t j absent
+abbrev pub choice : Task → ℕ → Choice
+choice t j = getD t j absent
 
 -- a selection names one permitted mode for each task
-abbrev pub Lawful : List Task → List ℕ → Type 0
-Lawful [] [] = Unit {0}
-Lawful [] (j ∷ s) = ⊥
-Lawful (t ∷ ts) [] = ⊥
-Lawful (t ∷ ts) (j ∷ s) = (j < length t) × T (option t j .permitted) × Lawful ts s
+abbrev pub IsSelection : List Task → List ℕ → Type 0
+IsSelection [] [] = Unit {0}
+IsSelection [] (j ∷ s) = ⊥
+IsSelection (t ∷ ts) [] = ⊥
+IsSelection (t ∷ ts) (j ∷ s) = (j < length t) × T (choice t j .permitted) × IsSelection ts s
 
 -- its core counts, added up
 unfoldable pub totalCores : List Task → List ℕ → ℕ
 totalCores [] s = 0
 totalCores (t ∷ ts) [] = 0
-totalCores (t ∷ ts) (j ∷ s) = option t j .need + totalCores ts s
+totalCores (t ∷ ts) (j ∷ s) = choice t j .need + totalCores ts s
 
 -- its costs, added up
 unfoldable pub totalCost : List Task → List ℕ → ℕ
 totalCost [] s = 0
 totalCost (t ∷ ts) [] = 0
-totalCost (t ∷ ts) (j ∷ s) = option t j .cost + totalCost ts s
+totalCost (t ∷ ts) (j ∷ s) = choice t j .cost + totalCost ts s
 
 -- it fits if its core counts add up to at most the cores m
 abbrev pub Fits : List Task → ℕ → List ℕ → Type 0
@@ -64,22 +64,10 @@ AsGood ts s s' = Then (totalCost ts s) (totalCost ts s') (Then (totalCores ts s)
 
 -- the plan: a fitting selection that is as good as every fitting selection
 pub record IsPlan (ts : List Task) (m : ℕ) (s : List ℕ) : Type 0 where
-  pub lawful : Lawful ts s
+  pub selection : IsSelection ts s
   pub fits : Fits ts m s
-  pub best : (s' : List ℕ) → Lawful ts s' → Fits ts m s' → AsGood ts s s'
+  pub best : (s' : List ℕ) → IsSelection ts s' → Fits ts m s' → AsGood ts s s'
 
 -- no selection fits
 abbrev pub NothingFits : List Task → ℕ → Type 0
-NothingFits ts m = (s : List ℕ) → Lawful ts s → Fits ts m s → ⊥
-
--- the limits of a table as the planner sees them: one mode costs at most this, and there are at most 32 tasks
-abbrev pub dearest : ℕ
-dearest = 103219200000000000
-
-abbrev pub Priced : List Task → Type 0
-Priced [] = Unit {0}
-Priced (t ∷ ts) = ((j : ℕ) → option t j .cost ≤ dearest) × Priced ts
-
-pub record Limits (ts : List Task) : Type 0 where
-  pub few : length ts ≤ 32
-  pub priced : Priced ts
+NothingFits ts m = (s : List ℕ) → IsSelection ts s → Fits ts m s → ⊥

@@ -3,13 +3,13 @@ use mathlib.Core.Path.{_≡_}
 use mathlib.Core.Logic.{_⊎_}
 use mathlib.Core.Bool.{Bool, true, cond, not, _&&_}
 use mathlib.Core.List.{List, [], _∷_}
-use Prim.Native.Nat.{ℕ, zero, suc, _-_, _≤_}
+use Prim.Native.Nat.{ℕ, zero, suc, _-_}
 use lib.Dec.{ltb, eqb}
-use lib.ListN.{length, drop}
+use lib.ListN.{length}
 use Rattle.answer.specs.Said.{Said, refused, plan}
-use Rattle.answer.specs.Order.{Row, row, first}
-use Rattle.model.specs.Plan.{Option, Task, option, IsPlan, NothingFits, totalCores, totalCost}
-use Rattle.model.specs.Cells.{mark, may, onward, best}
+use Rattle.answer.specs.Order.{Row, row}
+use Rattle.model.specs.Plan.{Choice, Task, choice, IsPlan, NothingFits, totalCores, totalCost}
+use Rattle.model.specs.Cells.{mark, may, onward}
 
 -- the first of the k numbers from c on that passes the test, and c + k if none does
 unfoldable pub searchFrom : (ℕ → Bool) → ℕ → ℕ → ℕ
@@ -22,11 +22,11 @@ used row₀ m = searchFrom (λ c. eqb (row₀ c) (row₀ m)) 0 m
 
 -- a permitted mode keeps the cost v of the cell at column c: it needs at most c cores, and its cost plus the next row's cell, at c less
 -- those cores, equals v
-unfoldable pub keeps : (ℕ → ℕ) → ℕ → ℕ → Option → Bool
+unfoldable pub keeps : (ℕ → ℕ) → ℕ → ℕ → Choice → Bool
 keeps next c v o = may o c && eqb (onward o next c) v
 
--- the number of the first option that passes the test, and the number of options if none does
-unfoldable pub firstOf : (Option → Bool) → Task → ℕ
+-- the number of the first mode that passes the test, and the number of modes if none does
+unfoldable pub firstOf : (Choice → Bool) → Task → ℕ
 firstOf f [] = 0
 firstOf f (o ∷ os) = cond (f o) 0 (suc (firstOf f os))
 
@@ -39,14 +39,14 @@ unfoldable pub trace : (ℕ → ℕ → ℕ) → ℕ → List Task → ℕ → L
 trace rows i [] c = []
 trace rows i (t ∷ ts) c =
     let j = lowest t (rows (suc i)) c (rows i c) in
-    j ∷ trace rows (suc i) ts (c - option t j .need)
+    j ∷ trace rows (suc i) ts (c - choice t j .need)
 
 -- each task has such a mode
 unfoldable pub allKeep : (ℕ → ℕ → ℕ) → ℕ → List Task → ℕ → Bool
 allKeep rows i [] c = true
 allKeep rows i (t ∷ ts) c =
     let j = lowest t (rows (suc i)) c (rows i c) in
-    ltb j (length t) && allKeep rows (suc i) ts (c - option t j .need)
+    ltb j (length t) && allKeep rows (suc i) ts (c - choice t j .need)
 
 -- 14: column m of row 0 reads as the mark; 18: no permitted mode keeps a cell's cost
 unfoldable pub takeRows : (ℕ → ℕ → ℕ) → List Task → ℕ → List Row
@@ -55,16 +55,9 @@ takeRows rows ts m =
     ∷ row 18 0 (not (allKeep rows 0 ts (used (rows 0) m)))
     ∷ []
 
--- the answer: cores used and cost; and the modes
-abbrev pub takeSaid : (ℕ → ℕ → ℕ) → List Task → ℕ → Said
-takeSaid rows ts m = first (takeRows rows ts m) (plan (used (rows 0) m) (rows 0 m))
-
+-- the modes
 abbrev pub takeModes : (ℕ → ℕ → ℕ) → List Task → ℕ → List ℕ
 takeModes rows ts m = trace rows 0 ts (used (rows 0) m)
-
--- the rows hold their defined values, up to column m
-abbrev pub Holds : (ℕ → ℕ → ℕ) → List Task → ℕ → Type 0
-Holds rows ts m = (i c : ℕ) → i ≤ length ts → c ≤ m → rows i c ≡ best (drop i ts) c
 
 -- a right answer: the plan, with its cores and its cost; or 14, and no selection fits
 abbrev pub Right : List Task → ℕ → Said → List ℕ → Type 0

@@ -1,7 +1,7 @@
--- The workspace: a run of numbers, which cell is which, the rule by which a cell is filled, and portions.
+-- The workspace: a run of numbers, which cell is which, the rule by which a cell is filled, and a portion.
 use mathlib.Core.Path.{_≡_}
 use mathlib.Core.Bool.{cond}
-use mathlib.Core.List.{List, [], _∷_}
+use mathlib.Core.List.{List, []}
 use Prim.Native.Nat.{ℕ, zero, suc, _+_, _-_, _*_, _/_, _%_, _<_, min}
 use lib.Dec.{eqb}
 use lib.ListN.{length, getD, set, drop}
@@ -57,12 +57,3 @@ advance W p b = min (p + b) W
 
 abbrev pub portion : Rule → ℕ → List ℕ → ℕ → ℕ → List ℕ
 portion rule W ws p b = fill rule ws p (advance W p b - p)
-
--- portions with these budgets in turn, each going on from the progress the last one gave
-unfoldable pub progressAfter : ℕ → ℕ → List ℕ → ℕ
-progressAfter W p [] = p
-progressAfter W p (b ∷ bs) = progressAfter W (advance W p b) bs
-
-unfoldable pub portions : Rule → ℕ → List ℕ → ℕ → List ℕ → List ℕ
-portions rule W ws p [] = ws
-portions rule W ws p (b ∷ bs) = portions rule W (portion rule W ws p b) (advance W p b) bs

@@ -1,8 +1,18 @@
-// The rules for one mode: its cores, its demand and its cost.
+// The rules for one mode: its cores, its demand and its cost; and the limits that sizes follow from.
 ghost use mathlib.Core.Path.{_≡_};
 ghost use Prim.Native.Nat.{_≤_, _<_};
 ghost use Rattle.model.specs.Rules.{roundedUp, meets, coresSaid, demandOf, apart, costOf};
-ghost use Rattle.model.specs.Said.{said};
+ghost use Rattle.model.specs.inner.Said.{said};
+
+// A table has at most so many tasks and cores.
+pub const MOST_TASKS: usize = 32;
+
+pub const MOST_CORES: usize = 64;
+
+// The cells of the widest row, columns 0 up to the cores, and of the largest workspace.
+pub const WIDEST: usize = MOST_CORES + 1;
+
+pub const MOST_CELLS: usize = (MOST_TASKS + 1) * WIDEST;
 
 // What a mode needs: so many cores, or it can't meet its period.
 pub enum Need {

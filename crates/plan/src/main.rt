@@ -1,13 +1,18 @@
 // Reads a table from standard input and prints its plan, or the refusal. No rule of its own.
-use demands::plan_whole;
 use libc::STDIN_FILENO;
 use libc::STDOUT_FILENO;
+use model::MOST_CELLS;
+use model::MOST_TASKS;
 use model::Need;
 use model::cores;
 use table::Reading;
 use table::ask_mode;
 use table::check;
 use taking::Taken;
+use whole::plan_whole;
+
+// The bytes of the largest lawful table.
+const MOST_BYTES: usize = 512 * (MOST_TASKS + 1);
 
 fn word(text: &[u8]) {
     io::write_all(STDOUT_FILENO, text);
@@ -78,10 +83,10 @@ fn show_plan(table: &[u8], used: u32, cost: u64, modes: &[u8]) {
 }
 
 fn answer(table: &[u8]) {
-    // room for the largest table: 33 rows of 65 cells, 32 tasks
-    let mut cells = [0u64; 2145];
-    let mut modes = [0u8; 32];
-    let taken = plan_whole(table, &mut cells, 0, &mut modes);
+    // room for the largest table
+    let mut cells = [0u64; MOST_CELLS];
+    let mut modes = [0u8; MOST_TASKS];
+    let taken = plan_whole(table, &mut cells, &mut modes);
     match taken {
         Taken::Plan { cores, cost } => show_plan(table, cores, cost, &modes),
         Taken::Refused(refusal) => show_refusal(refusal.number, refusal.at),
@@ -90,9 +95,9 @@ fn answer(table: &[u8]) {
 
 fn main() {
     // one byte more than the largest lawful table
-    let mut table = [0u8; 16897];
+    let mut table = [0u8; MOST_BYTES + 1];
     let length = io::read_full(STDIN_FILENO, &mut table);
-    if 16896 < length {
+    if MOST_BYTES < length {
         show_refusal(7, 0);
         return;
     }

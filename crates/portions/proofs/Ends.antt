@@ -12,8 +12,8 @@ use Rattle.answer.proofs.Outcomes.{goes, behind, given, gone}
 use Rattle.model.specs.Workspace.{advance, portion}
 use Rattle.model.proofs.Values.{fill-filled}
 use Rattle.table.specs.Order.{tableRows}
-use Rattle.options.specs.Tasks.{tasksOfTable, coresOfTable, cellsOfTable}
-use Rattle.options.proofs.Tables.{cells-by-tasks}
+use Rattle.choices.specs.Tasks.{tasksOfTable, coresOfTable, cellsOfTable}
+use Rattle.choices.proofs.Tables.{cells-by-tasks}
 use Rattle.portions.specs.declared.Filling.{Filling}
 use Rattle.portions.specs.Said.{said}
 use Rattle.portions.specs.Portion.{ownRows, portionRows, ruleOf, FilledTo, Portioned}

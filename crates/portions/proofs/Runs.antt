@@ -7,11 +7,11 @@ use lib.ListN.{length, getD, take, drop}
 use Rattle.model.specs.Plan.{Task}
 use Rattle.model.specs.Cells.{least}
 use Rattle.model.specs.Workspace.{cellCount, cellRule, fill}
-use Rattle.cells.specs.Rows.{lastRow, taskRow}
+use Rattle.cells.specs.inner.Rows.{lastRow, taskRow}
 use Rattle.table.specs.Numbers.{taskNumbersIn, numbersIn}
-use Rattle.table.specs.Lawful.{LawfulWith}
-use Rattle.options.specs.Tasks.{taskOf, tasksOfTable}
-use Rattle.options.proofs.Tables.{tasks-length, block-task}
+use Rattle.table.specs.inner.Accepted.{LawfulWith}
+use Rattle.choices.specs.Tasks.{taskOf, tasksOfTable}
+use Rattle.choices.proofs.Tables.{tasks-length, block-task}
 use Rattle.portions.specs.Portion.{ruleOf}
 use Rattle.portions.proofs.Rows.{stretch-start, row-within, run-last, run-task}
 

@@ -9,7 +9,7 @@ use Rattle.answer.specs.Said.{filled}
 use Rattle.answer.specs.Order.{Row, row, Outcome}
 use Rattle.model.specs.Workspace.{Rule, cellRule, Filled as HoldsBelow, advance, portion}
 use Rattle.table.specs.Order.{tableRows}
-use Rattle.options.specs.Tasks.{tasksOfTable, coresOfTable, cellsOfTable}
+use Rattle.choices.specs.Tasks.{tasksOfTable, coresOfTable, cellsOfTable}
 use Rattle.portions.specs.declared.Filling.{Filling}
 use Rattle.portions.specs.Said.{said}
 

@@ -1,14 +1,16 @@
 -- Portions after each other, over `portion`'s promise alone.
-use Prim.Native.Nat.{ℕ, _+_, _≤_}
+use Prim.Native.Nat.{ℕ, _+_, _≤_, min}
 use mathlib.Core.Path.{_≡_}
 use mathlib.Core.Logic.{_↔_}
 use mathlib.Core.List.{List, [], _∷_}
-use lib.ListN.{replicate}
+use lib.ListN.{length, replicate}
 use Rattle.answer.specs.Said.{filled}
 use Rattle.model.specs.Rules.{roundedUp}
-use Rattle.options.specs.Tasks.{cellsOfTable}
+use Rattle.block.specs.Bytes.{Bytes}
+use Rattle.table.specs.Order.{Accepted}
+use Rattle.choices.specs.Tasks.{cellsOfTable}
 use Rattle.portions.specs.declared.Filling.{Filling}
-use Rattle.portions.specs.Said.{said}
+use Rattle.portions.specs.Said.{said, InType}
 use Rattle.portions.specs.Portion.{Portioned}
 
 -- a portion that was not refused: it answered the new progress q
@@ -22,6 +24,27 @@ abbrev pub Run : List ℕ → List ℕ → List ℕ → ℕ → List ℕ → ℕ
 Run bytes [] before p after q = (before ≡ after) × (p ≡ q)
 Run bytes (b ∷ bs) before p after q =
     (mid : List ℕ) × (between : ℕ) × Step bytes before p b mid between × Run bytes bs mid between after q
+
+-- each answer of a run is one that the code's type can hold
+abbrev pub AllInType : (bytes budgets before : List ℕ) (p : ℕ) (after : List ℕ) (q : ℕ) → Run bytes budgets before p after q → Type 0
+AllInType bytes [] before p after q run = Unit {0}
+AllInType bytes (b ∷ bs) before p after q (mid, between, step, run) = InType (step .answer) × AllInType bytes bs mid between after q run
+
+-- budgets, added up
+abbrev pub spent : List ℕ → ℕ
+spent [] = 0
+spent (b ∷ bs) = b + spent bs
+
+-- of an accepted table with workspace enough there is a run with any budgets, from progress 0 to the smaller of their sum and W
+pub record RunTo (bytes budgets cells : List ℕ) (q : ℕ) : Type 0 where
+  pub filling : List ℕ
+  pub run : Run bytes budgets cells 0 filling q
+  pub in-type : AllInType bytes budgets cells 0 filling q run
+
+abbrev pub ThereIsARun : Type 0
+ThereIsARun =
+    (bytes cells budgets : List ℕ) → Bytes bytes → Accepted bytes → cellsOfTable bytes ≤ length cells
+    → RunTo bytes budgets cells (min (spent budgets) (cellsOfTable bytes))
 
 -- two portions after each other are one of the summed budget
 abbrev pub TwoAreOne : Type 0

@@ -3,20 +3,21 @@ ghost use mathlib.Core.Path.{_≡_};
 ghost use Prim.Native.Nat.{_+_, _-_, _%_, _≤_, _<_, min};
 ghost use lib.ListN.{length};
 ghost use Rattle.answer.specs.Said.{refused};
+ghost use Rattle.model.specs.Limits.{mostCores};
 ghost use Rattle.model.specs.Workspace.{cellCount, fill, advance as advanceTo};
-ghost use Rattle.cells.specs.Rows.{taskRow};
+ghost use Rattle.cells.specs.inner.Rows.{widest, taskRow};
 ghost use Rattle.table.specs.Numbers.{taskNumbersIn};
-ghost use Rattle.table.specs.Lawful.{LawfulWith};
-ghost use Rattle.options.specs.Tasks.{taskOf};
-ghost use Rattle.options.specs.Arrays.{InLimits, AllMeet};
+ghost use Rattle.table.specs.inner.Accepted.{LawfulWith};
+ghost use Rattle.choices.specs.Tasks.{taskOf};
+ghost use Rattle.choices.specs.inner.Arrays.{InLimits, AllMeet};
 ghost use Rattle.portions.specs.Said.{said};
 ghost use Rattle.portions.specs.Portion.{ruleOf, Portioned};
 use answer::Refusal;
 use cells::clear_run;
 use cells::fill_run;
-use options::costs;
-use options::modes;
-use options::needs;
+use choices::costs;
+use choices::modes;
+use choices::needs;
 use table::Reading;
 use table::check;
 use table::refusal_of;
@@ -49,7 +50,7 @@ fn advance(count: u32, progress: u32, budget: u32) -> u32
 
 // Where a run of cells from p up to `to` leaves its row, or ends.
 fn row_stop(m: usize, p: usize, to: usize) -> usize
-    requires { ⌜ (m ≤ 64) × (p < to) ⌝ }
+    requires { ⌜ (m ≤ mostCores) × (p < to) ⌝ }
     ensures { λ r. ⌜ r ≡ min (p + (m + 1 - p % (m + 1))) to ⌝ }
 {
     let left = m + 1 - p % (m + 1);
@@ -57,7 +58,7 @@ fn row_stop(m: usize, p: usize, to: usize) -> usize
 }
 
 // Fills cells of a task's row, which starts at `start`, from one number up to another; the next row's cells start at `next`. The
-// task's options are loaded once, into two arrays.
+// task's choices are loaded once, into two arrays.
 fn task_run(
     block: &[u8],
     common: u32,
@@ -68,7 +69,7 @@ fn task_run(
     to: usize,
 )
     requires { ⌜ InLimits common (taskNumbersIn (now block)) × AllMeet (taskNumbersIn (now block)) ⌝ }
-    requires { ⌜ (start ≤ from) × (from ≤ to) × (to ≤ length (now cells)) × (to ≤ start + 65) × (next + (to - start) ≤ start) ⌝ }
+    requires { ⌜ (start ≤ from) × (from ≤ to) × (to ≤ length (now cells)) × (to ≤ start + widest) × (next + (to - start) ≤ start) ⌝ }
     ensures { λ _. ⌜ now (cells .exit) ≡ fill (taskRow (taskOf common (taskNumbersIn (now (block .entry)))) next start) (now (cells .entry)) from (to - from) ⌝ }
 {
     let count = modes(block);
@@ -102,8 +103,8 @@ fn row_run(table: &[u8], common: u32, cells: &mut [u64], n: usize, m: usize, fro
     task_run(block, common, cells, start - width, start, from, to);
 }
 
-// Fills cells row by row.
-fn fill_rows(
+// Fills cells of a lawful table row by row.
+pub fn fill_rows(
     table: &[u8],
     common: u32,
     cells: &mut [u64],

@@ -20,7 +20,7 @@ use Rattle.table.specs.declared.Reading.the-variants.{Header}
 use Rattle.table.specs.Said.{said}
 use Rattle.table.specs.Order.{headerBlock, taskBlock, headerRows, headerSaid, taskRows, wholeTaskRows, otherLength, frontRows, tasksRows, tableRows, tableSaid}
 use Rattle.table.specs.Numbers.{taskNumbersIn, numbersIn}
-use Rattle.table.specs.Lawful.{LawfulTable, LawfulWith}
+use Rattle.table.specs.inner.Accepted.{LawfulTable, LawfulWith}
 use Rattle.table.proofs.Readings.{reading, tag}
 use Rattle.table.proofs.Blocks.{bytes-block}
 use Rattle.table.proofs.Limits.{is, header-lawful, task-lawful, figures-lawful}

@@ -12,23 +12,7 @@ use Rattle.block.specs.Layout.{tasksIn, commonIn, modesIn, Figures, figuresIn}
 use Rattle.block.specs.Tests.{figureRows, modesRows}
 use Rattle.block.proofs.Figures.{flat-same}
 use Rattle.block.proofs.Round.{HoldsHeader, HoldsTask}
-use Rattle.table.specs.Order.{
-  headerBlock,
-  taskBlock,
-  headerRows,
-  taskRows,
-  taskSaid,
-  figuresSaid,
-  wholeTaskRows,
-  otherLength,
-  frontRows,
-  tasksRows,
-  tableRows,
-  askTaskRows,
-  askModeRows,
-  askTaskSaid,
-  askModeSaid,
-}
+use Rattle.table.specs.Order.{headerBlock, taskBlock, headerRows, taskRows, taskSaid, figuresSaid, wholeTaskRows, otherLength, frontRows, tasksRows, tableRows, askTaskRows, askModeRows, askTaskSaid, askModeSaid}
 use Rattle.table.specs.Numbers.{TaskNumbers, figuresOf, Numbers, numbersIn}
 use Rattle.table.specs.Lawful.{LawfulHeader, LawfulTask, LawfulFigures, Lawful}
 use Rattle.table.proofs.Blocks.{length-block}

@@ -9,6 +9,7 @@ use borrow.Author.Tests.{ltb-false, eqb-true, eqb-false, not-false, le-ltb, eq-e
 use lib.Dec.{eqb, ltb}
 use Rattle.answer.specs.Order.{NoneGiven}
 use Rattle.answer.proofs.Bools.{clash, or-false}
+use Rattle.model.specs.Limits.{mostTasks, mostCores}
 use Rattle.model.specs.Rules.{meets}
 use Rattle.block.specs.Layout.{Figures}
 use Rattle.block.specs.Tests.{outside, wrongCommon, wrongLimits, wrongShape, allows, anyAllowed, wrongPermitted, wrongPeriod, wrongWork, figureRows}
@@ -48,10 +49,10 @@ figures-lawful at H f p =
 
 pub header-lawful : (n m H : ℕ) → wrongLimits n m H ≡ false → LawfulHeader n m H
 header-lawful n m H p =
-    let five = or-false (outside 1 32 n || outside 1 64 m) (wrongCommon H) p in
-    let counts = or-false (outside 1 32 n) (outside 1 64 m) (five .0) in
-    let tasks = inside 1 32 n (counts .0) in
-    let cores = inside 1 64 m (counts .1) in
+    let five = or-false (outside 1 mostTasks n || outside 1 mostCores m) (wrongCommon H) p in
+    let counts = or-false (outside 1 mostTasks n) (outside 1 mostCores m) (five .0) in
+    let tasks = inside 1 mostTasks n (counts .0) in
+    let cores = inside 1 mostCores m (counts .1) in
     let common = inside 1 100000 H (five .1) in
     record { tasks-low = tasks .0; tasks-high = tasks .1; cores-low = cores .0; cores-high = cores .1; common-low = common .0; common-high = common .1 }
 
@@ -96,7 +97,7 @@ within low high x p q = rw (le-ltb x low p, le-ltb high x q)
 
 pub header-passes : {n m H : ℕ} → LawfulHeader n m H → wrongLimits n m H ≡ false
 header-passes {n} {m} {H} l =
-    rw (within 1 32 n (l .tasks-low) (l .tasks-high), within 1 64 m (l .cores-low) (l .cores-high), within 1 100000 H (l .common-low) (l .common-high))
+    rw (within 1 mostTasks n (l .tasks-low) (l .tasks-high), within 1 mostCores m (l .cores-low) (l .cores-high), within 1 100000 H (l .common-low) (l .common-high))
 
 pub common-passes : {n m H : ℕ} → LawfulHeader n m H → wrongCommon H ≡ false
 common-passes {n} {m} {H} l = within 1 100000 H (l .common-low) (l .common-high)

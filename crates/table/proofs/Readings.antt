@@ -1,5 +1,5 @@
 -- `Reading` as an enum of answers: what is said of one is the whole of it. Assumes nothing.
-use Prim.Native.Nat.{ℕ}
+use Prim.Native.Nat.{ℕ, _<_, _^_}
 use native.Mathlib.Omega.{arith}
 use mathlib.Core.Path.{_≡_, refl, ap, _∙_}
 use mathlib.Core.List.{List, [], _∷_, map}
@@ -7,15 +7,19 @@ use mathlib.Core.Bool.{cond, not}
 use lib.Dec.{T, eqb}
 use mir.Val.{hasKey}
 use types.Run.{OneOf, miss}
-use denote.Enum.Declared.{tagOf}
+use denote.Laws.{Is}
+use denote.Enum.Declared.{tagOf, row}
+use denote.Enum.Laws.{val}
 use Rattle.answer.specs.Said.{Said, refused}
 use Rattle.answer.specs.Order.{Row, first, Outcome}
 use Rattle.answer.proofs.Rows.{kind, numbers, kind-refused}
 use Rattle.answer.proofs.Elses.{Tells, one-said, stopped, kept}
 use Rattle.table.specs.declared.Reading.{Reading}
 use Rattle.table.specs.declared.Reading.the-variants.{Refused, Header, Task, Figures}
-use Rattle.table.specs.Said.{said, refusalOf}
+use Rattle.table.specs.Said.{said}
+use Rattle.table.specs.inner.Refusals.{refusalOf}
 use Rattle.table.proofs.Reading.{the-type}
+use Rattle.table.proofs.Reading.Laws.{the-laws}
 
 abbrev pub tag : Reading → ℕ
 tag r = tagOf the-type r
@@ -44,6 +48,22 @@ back (Figures C L T) = refl
 
 pub one-reading : {s : Said} (x y : Reading) → said x ≡ s → said y ≡ s → x ≡ y
 one-reading = one-said said unsaid back
+
+-- ---- a reading that its type can hold
+abbrev pub Held : Reading → Type 0
+Held r = Is (row the-type) r (val the-type the-laws r ∷ [])
+
+pub held-refusal : (k at : ℕ) → k < 2 ^ 8 → at < 2 ^ 32 → Held (Refused (record { number = k; at = at }))
+held-refusal k at h g = (_, (refl, (_, (refl, ((_, (refl, ((refl, h), ((refl, g), tt)))), tt)))))
+
+pub held-header : (n m H : ℕ) → n < 2 ^ 16 → m < 2 ^ 16 → H < 2 ^ 32 → Held (Header n m H)
+held-header n m H x y z = (_, (refl, (_, (refl, ((refl, x), ((refl, y), ((refl, z), tt)))))))
+
+pub held-task : (E modes permitted : ℕ) → E < 2 ^ 8 → modes < 2 ^ 8 → permitted < 2 ^ 16 → Held (Task E modes permitted)
+held-task E modes permitted x y z = (_, (refl, (_, (refl, ((refl, x), ((refl, y), ((refl, z), tt)))))))
+
+pub held-figures : (C L P : ℕ) → C < 2 ^ 32 → L < 2 ^ 32 → P < 2 ^ 32 → Held (Figures C L P)
+held-figures C L P x y z = (_, (refl, (_, (refl, ((refl, x), ((refl, y), ((refl, z), tt)))))))
 
 -- ---- a reading handed on
 pub no-refusal : (r : Reading) → OneOf (1 ∷ 2 ∷ 3 ∷ []) (tag r) → record { number = 0; at = 0 } ≡ refusalOf r

@@ -1,22 +1,20 @@
 -- Which numbers a table may have: those of "Numbers and limits", with the rule of the permitted modes and that each mode can meet its
--- period; and what holds of the bytes of an accepted table.
-use Prim.Native.Nat.{ℕ, _+_, _*_, _%_, _^_, _≤_, _<_}
-use mathlib.Core.List.{List}
+-- period.
+use Prim.Native.Nat.{ℕ, _*_, _%_, _^_, _≤_, _<_}
 use mathlib.Core.Bool.{true, false}
 use mathlib.Core.Path.{_≡_}
-use lib.ListN.{length}
+use Rattle.model.specs.Limits.{mostTasks, mostCores}
 use Rattle.model.specs.Rules.{meets}
-use Rattle.block.specs.Layout.{taskNumberIn, Figures}
+use Rattle.block.specs.Layout.{Figures}
 use Rattle.block.specs.Tests.{allows}
-use Rattle.table.specs.Order.{taskBlock}
-use Rattle.table.specs.Numbers.{TaskNumbers, Numbers, numbersIn}
+use Rattle.table.specs.Numbers.{TaskNumbers, Numbers}
 
 -- a table has 1 to 32 tasks, 1 to 64 cores and a common period H of 1 to 100,000 ticks
 pub record LawfulHeader (n m H : ℕ) : Type 0 where
   pub tasks-low : 1 ≤ n
-  pub tasks-high : n ≤ 32
+  pub tasks-high : n ≤ mostTasks
   pub cores-low : 1 ≤ m
-  pub cores-high : m ≤ 64
+  pub cores-high : m ≤ mostCores
   pub common-low : 1 ≤ H
   pub common-high : H ≤ 100000
 
@@ -45,16 +43,3 @@ pub record Lawful (t : Numbers) : Type 0 where
   pub header : LawfulHeader (t .tasks) (t .cores) (t .common)
   pub task : (i : ℕ) → i < t .tasks → LawfulTask (t .task i)
   pub mode : (i j : ℕ) → i < t .tasks → j < t .task i .modes → LawfulFigures (t .common) (t .task i .figures j)
-
--- the bytes of a table: n + 1 blocks, each task's number its position, and lawful numbers
-pub record LawfulTable (bytes : List ℕ) : Type 0 where
-  pub long : length bytes ≡ 512 * (numbersIn bytes .tasks + 1)
-  pub number : (i : ℕ) → i < numbersIn bytes .tasks → taskNumberIn (taskBlock bytes i) ≡ i
-  pub numbers : Lawful (numbersIn bytes)
-
--- with so many tasks and cores, and this common period
-pub record LawfulWith (bytes : List ℕ) (n m H : ℕ) : Type 0 where
-  pub table : LawfulTable bytes
-  pub tasks : numbersIn bytes .tasks ≡ n
-  pub cores : numbersIn bytes .cores ≡ m
-  pub common : numbersIn bytes .common ≡ H

@@ -2,11 +2,11 @@
 
 -- what reading answers
 pub mod Said
--- a part of a lent slice
-pub mod Part
 -- its blocks, and the order of its refusals
 pub mod Order
 -- its numbers, as asking gives them
 pub mod Numbers
 -- which numbers a table may have
 pub mod Lawful
+-- nothing that has to be believed
+pub mod inner

@@ -1,6 +1,7 @@
 -- The blocks of a table, and the order of its refusals: 1; header 2, 3, 4, 5, 6, 7; then each task block in turn 2, 3, 8, 9, 10, 6, and
 -- its modes in turn 11, 12, 13. Asking gives 19 after them.
 use Prim.Native.Nat.{ℕ, zero, suc, _+_, _*_, _%_}
+use mathlib.Core.Path.{_≡_}
 use mathlib.Core.Bool.{Bool, not, _||_}
 use mathlib.Core.List.{List, [], _∷_, _++_}
 use lib.Dec.{eqb, leb}
@@ -96,6 +97,10 @@ askModeRows bytes i j = askTaskRows bytes i ++ row 19 0 (leb (modesIn (taskBlock
 -- ---- what the three calls answer
 abbrev pub tableSaid : List ℕ → Said
 tableSaid bytes = first (tableRows bytes) (headerSaid (headerBlock bytes))
+
+-- accepted by `check`
+abbrev pub Accepted : List ℕ → Type 0
+Accepted bytes = (n : ℕ) × (m : ℕ) × (H : ℕ) × (tableSaid bytes ≡ header n m H)
 
 abbrev pub askTaskSaid : List ℕ → ℕ → Said
 askTaskSaid bytes i = first (askTaskRows bytes i) (taskSaid (taskBlock bytes i))

@@ -8,8 +8,9 @@ ghost use Rattle.answer.specs.Order.{first};
 ghost use Rattle.block.specs.Bytes.{number};
 ghost use Rattle.block.specs.Layout.{headerUnused, taskNumberIn, taskUnused, listed, figuresIn};
 ghost use Rattle.block.specs.Tests.{figureRows};
-ghost use Rattle.table.specs.Said.{said, refusalOf};
-ghost use Rattle.table.specs.Part.{Part};
+ghost use Rattle.table.specs.Said.{said};
+ghost use Rattle.table.specs.inner.Refusals.{refusalOf};
+ghost use Rattle.table.specs.inner.Part.{Part};
 ghost use Rattle.table.specs.Order.{
   headerBlock,
   wrongCheck,

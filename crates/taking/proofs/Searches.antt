@@ -10,7 +10,7 @@ use lib.Dec.{ltb}
 use lib.ListN.{length, getD, drop}
 use lib.Seq.{drop-cons}
 use Rattle.answer.proofs.Bools.{clash}
-use Rattle.model.specs.Plan.{Option, Task, option}
+use Rattle.model.specs.Plan.{Choice, Task, choice}
 use Rattle.model.specs.Taking.{used, firstOf, lowest, trace, allKeep}
 use Rattle.model.proofs.Least.{First, first-at}
 use Rattle.model.proofs.Taking.{used-same, used-least}
@@ -23,8 +23,8 @@ used-is row m r e n = go (decLt (used row m) r)
     go (yes l) = absurd (n (used row m) l (used-same row m))
     go (no l) = omega (arith, used-least row m r e)
 
--- the first option that passes: none before it does
-pub first-is : (f : Option → Bool) (t : Task) (j : ℕ) → j < length t → ((k : ℕ) → k < j → f (option t k) ≡ false) → f (option t j) ≡ true
+-- the first choice that passes: none before it does
+pub first-is : (f : Choice → Bool) (t : Task) (j : ℕ) → j < length t → ((k : ℕ) → k < j → f (choice t k) ≡ false) → f (choice t j) ≡ true
     → firstOf f t ≡ j
 first-is f t j h n p = go (decLt (firstOf f t) j) (first-at f t j h p)
   where
@@ -32,7 +32,7 @@ first-is f t j h n p = go (decLt (firstOf f t) j) (first-at f t j h p)
     go (yes l) r = clash (sym (r .passes) ∙ n (firstOf f t) l)
     go (no l) r = omega (arith, r .early)
 
-pub first-past : (f : Option → Bool) (t : Task) → ((k : ℕ) → k < length t → f (option t k) ≡ false) → firstOf f t ≡ length t
+pub first-past : (f : Choice → Bool) (t : Task) → ((k : ℕ) → k < length t → f (choice t k) ≡ false) → firstOf f t ≡ length t
 unfolding firstOf
 first-past f [] n = refl
 first-past f (o ∷ os) n = rw (n 0 (omega arith)) (ap suc (first-past f os (λ k h. n (suc k) (omega arith))))
@@ -40,15 +40,15 @@ first-past f (o ∷ os) n = rw (n 0 (omega arith)) (ap suc (first-past f os (λ 
 -- one more task
 module _ (rows : ℕ → ℕ → ℕ) (i : ℕ) (ts : List Task) (c j : ℕ) (more : i < length ts)
     (e : lowest (getD ts i []) (rows (suc i)) c (rows i c) ≡ j) where
-  pub trace-more : trace rows i (drop i ts) c ≡ j ∷ trace rows (suc i) (drop (suc i) ts) (c - option (getD ts i []) j .need)
+  pub trace-more : trace rows i (drop i ts) c ≡ j ∷ trace rows (suc i) (drop (suc i) ts) (c - choice (getD ts i []) j .need)
   unfolding trace
   trace-more =
       ap (λ (x : List Task). trace rows i x c) (drop-cons ts i [] more)
-      ∙ ap (λ (k : ℕ). k ∷ trace rows (suc i) (drop (suc i) ts) (c - option (getD ts i []) k .need)) e
+      ∙ ap (λ (k : ℕ). k ∷ trace rows (suc i) (drop (suc i) ts) (c - choice (getD ts i []) k .need)) e
 
   pub keep-more : allKeep rows i (drop i ts) c
-      ≡ (ltb j (length (getD ts i [])) && allKeep rows (suc i) (drop (suc i) ts) (c - option (getD ts i []) j .need))
+      ≡ (ltb j (length (getD ts i [])) && allKeep rows (suc i) (drop (suc i) ts) (c - choice (getD ts i []) j .need))
   unfolding allKeep
   keep-more =
       ap (λ (x : List Task). allKeep rows i x c) (drop-cons ts i [] more)
-      ∙ ap (λ (k : ℕ). ltb k (length (getD ts i [])) && allKeep rows (suc i) (drop (suc i) ts) (c - option (getD ts i []) k .need)) e
+      ∙ ap (λ (k : ℕ). ltb k (length (getD ts i [])) && allKeep rows (suc i) (drop (suc i) ts) (c - choice (getD ts i []) k .need)) e

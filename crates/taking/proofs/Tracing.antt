@@ -9,14 +9,15 @@ use mathlib.Core.List.{List, [], _++_, append-nil}
 use borrow.Author.Tests.{lt-ltb, le-ltb}
 use lib.ListN.{length, getD, take, drop, set, length-set, drop-of-length-le}
 use lib.Seq.{take-suc-set, append-snoc}
-use Rattle.model.specs.Plan.{Task, option}
+use Rattle.model.specs.Limits.{mostTasks}
+use Rattle.model.specs.Plan.{Task, choice}
 use Rattle.model.specs.Workspace.{cellIn, cellCount}
 use Rattle.model.specs.Taking.{keeps, lowest, trace, allKeep}
-use Rattle.cells.specs.Rows.{rowFrom}
+use Rattle.cells.specs.inner.Rows.{rowFrom}
 use Rattle.table.specs.Numbers.{numbersIn}
-use Rattle.table.specs.Lawful.{LawfulWith}
-use Rattle.options.specs.Tasks.{tasksOfTable}
-use Rattle.options.proofs.Tables.{tasks-length}
+use Rattle.table.specs.inner.Accepted.{LawfulWith}
+use Rattle.choices.specs.Tasks.{tasksOfTable}
+use Rattle.choices.proofs.Tables.{tasks-length}
 use Rattle.taking.specs.Take.{cellOf}
 use Rattle.taking.proofs.Searches.{first-is, first-past, trace-more, keep-more}
 use Rattle.taking.proofs.Helds.{heldAt, HeldAs}
@@ -39,7 +40,7 @@ pub record AtTask (bytes cells : List ℕ) (n m used : ℕ) (modes : List ℕ) (
   pub i-in : i ≤ n
   pub column-in : column ≤ m
   pub starts : start ≡ (n - i) * (m + 1)
-  pub long : length modes ≡ 32
+  pub long : length modes ≡ mostTasks
   pub found : trace (cellOf bytes cells) 0 (tasksOfTable bytes) used ≡ take i modes ++ trace (cellOf bytes cells) i (drop i (tasksOfTable bytes)) column
   pub all : allKeep (cellOf bytes cells) 0 (tasksOfTable bytes) used ≡ allKeep (cellOf bytes cells) i (drop i (tasksOfTable bytes)) column
 
@@ -93,7 +94,7 @@ module _ {bytes cells : List ℕ} {n m H used : ℕ} {modes : List ℕ} {i colum
       next : Rows (suc i) ≡ rowFrom cells (start - (m + 1))
       next = row-at (suc i) (start - (m + 1)) (next-starts ∙ ap (λ (x : ℕ). (n - x) * (m + 1)) (add-one i))
 
-      as-held : (j : ℕ) → j < k → keeps (Rows (suc i)) column (Rows i column) (option (getD Ts i []) j) ≡ Kept j
+      as-held : (j : ℕ) → j < k → keeps (Rows (suc i)) column (Rows i column) (choice (getD Ts i []) j) ≡ Kept j
       as-held j in-task = rw (own, next) (sym (h .same j in-task (rowFrom cells (start - (m + 1))) column cell (omega (arith, a .column-in))))
 
       -- none of the task's modes keeps it
@@ -110,7 +111,7 @@ module _ {bytes cells : List ℕ} {n m H used : ℕ} {modes : List ℕ} {i colum
             first-is (keeps (Rows (suc i)) column (Rows i column)) (getD Ts i []) j (rw (h .many) in-task)
             (λ x l. as-held x (omega arith) ∙ none x l) (as-held j in-task ∙ kept)
 
-        cores-is : getD need j 0 ≡ option (getD Ts i []) j .need
+        cores-is : getD need j 0 ≡ choice (getD Ts i []) j .need
         cores-is = h .cores j in-task (rowFrom cells (start - (m + 1))) column cell (omega (arith, a .column-in)) kept
 
         pub step : AtTask bytes cells n m used (set modes i j) (i + 1) (column - getD need j 0) (start - (m + 1))

@@ -4,5 +4,5 @@
 pub mod Said
 -- what taking promises
 pub mod Take
--- what its search for the modes finds
-pub mod Traces
+-- nothing that has to be believed
+pub mod inner

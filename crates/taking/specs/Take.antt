@@ -9,7 +9,7 @@ use Rattle.model.specs.Workspace.{cellIn}
 use Rattle.model.specs.Taking.{used, takeRows, takeModes}
 use Rattle.table.specs.Order.{tableRows}
 use Rattle.table.specs.Numbers.{numbersIn}
-use Rattle.options.specs.Tasks.{tasksOfTable, coresOfTable, cellsOfTable}
+use Rattle.choices.specs.Tasks.{tasksOfTable, coresOfTable, cellsOfTable}
 use Rattle.taking.specs.declared.Taken.{Taken}
 use Rattle.taking.specs.Said.{said}
 
@@ -17,30 +17,36 @@ use Rattle.taking.specs.Said.{said}
 abbrev pub cellOf : List ℕ → List ℕ → ℕ → ℕ → ℕ
 cellOf bytes cells i c = cellIn (numbersIn bytes .tasks) (numbersIn bytes .cores) cells i c
 
--- after the table's checks 15: the workspace, then the output, which needs n bytes, is too short; 16, 17: progress above W, below W
-abbrev pub lentRows : ℕ → ℕ → ℕ → ℕ → ℕ → List Row
-lentRows W n cells out p =
-    row 15 0 (ltb cells W)
-    ∷ row 15 0 (ltb out n)
-    ∷ row 16 0 (ltb W p)
-    ∷ row 17 0 (ltb p W)
+-- after the table's checks 15: the workspace, then the output, which needs n bytes, is too short
+unfoldable pub lentRows : List ℕ → ℕ → ℕ → List Row
+lentRows bytes cells out =
+    tableRows bytes
+    ++ row 15 0 (ltb cells (cellsOfTable bytes))
+    ∷ row 15 0 (ltb out (numbersIn bytes .tasks))
     ∷ []
+
+-- then 16, 17: progress above W, below W
+abbrev pub progressRows : ℕ → ℕ → List Row
+progressRows W p = row 16 0 (ltb W p) ∷ row 17 0 (ltb p W) ∷ []
 
 -- then 14 and 18
 unfoldable pub takingRows : List ℕ → List ℕ → ℕ → ℕ → List Row
 takingRows bytes cells p out =
-    tableRows bytes
-    ++ (lentRows (cellsOfTable bytes) (numbersIn bytes .tasks) (length cells) out p
+    lentRows bytes (length cells) out
+    ++ (progressRows (cellsOfTable bytes) p
     ++ takeRows (cellOf bytes cells) (tasksOfTable bytes) (coresOfTable bytes))
 
 -- the modes, one byte per task, and the rest of the buffer as it was
 abbrev pub withModes : List ℕ → List ℕ → List ℕ
 withModes modes out = modes ++ drop (length modes) out
 
--- the answer, cores used and cost, and the whole output afterwards
-abbrev pub TookPlan : List ℕ → List ℕ → ℕ → List ℕ → Taken → List ℕ → Type 0
-TookPlan bytes cells p before r after =
-    let rows = cellOf bytes cells in
+-- by these rows: the answer, cores used and cost, and the whole output afterwards
+abbrev pub TookBy : List Row → List ℕ → List ℕ → List ℕ → Taken → List ℕ → Type 0
+TookBy rows bytes cells before r after =
+    let cell = cellOf bytes cells in
     let m = coresOfTable bytes in
-    Outcome (takingRows bytes cells p (length before)) (plan (used (rows 0) m) (rows 0 m)) before
-    (withModes (takeModes rows (tasksOfTable bytes) m) before) (said r) after
+    Outcome rows (plan (used (cell 0) m) (cell 0 m)) before (withModes (takeModes cell (tasksOfTable bytes) m) before) (said r) after
+
+-- by all of them
+abbrev pub TookPlan : List ℕ → List ℕ → ℕ → List ℕ → Taken → List ℕ → Type 0
+TookPlan bytes cells p before r after = TookBy (takingRows bytes cells p (length before)) bytes cells before r after

@@ -3,19 +3,25 @@ ghost use mathlib.Core.Path.{_≡_};
 ghost use Prim.Native.Nat.{_+_, _*_, _≤_, _<_};
 ghost use lib.ListN.{length, take as front};
 ghost use Rattle.answer.specs.Said.{refused};
+ghost use Rattle.answer.specs.Order.{first};
 ghost use Rattle.model.specs.Workspace.{cellCount};
 ghost use Rattle.model.specs.Taking.{used as usedIn, keeps as keepsCost};
-ghost use Rattle.cells.specs.Rows.{held, rowFrom};
-ghost use Rattle.table.specs.Lawful.{LawfulWith};
+ghost use Rattle.model.specs.inner.Costs.{dearest};
+ghost use Rattle.cells.specs.inner.Rows.{held, rowFrom};
+ghost use Rattle.table.specs.Said.{said as readingSaid};
+ghost use Rattle.table.specs.Order.{headerBlock, headerSaid};
+ghost use Rattle.table.specs.inner.Accepted.{LawfulWith};
 ghost use Rattle.taking.specs.Said.{said};
-ghost use Rattle.taking.specs.Take.{withModes, TookPlan};
-ghost use Rattle.taking.specs.Traces.{TracedFrom};
+ghost use Rattle.taking.specs.Take.{lentRows, withModes, TookPlan};
+ghost use Rattle.taking.specs.inner.Traces.{TracedFrom};
+ghost use Rattle.taking.specs.inner.From.{TookFrom};
 use answer::Refusal;
 use cells::onward;
 use cells::reads;
-use options::costs;
-use options::modes as mode_count;
-use options::needs;
+use choices::costs;
+use choices::modes as mode_count;
+use choices::needs;
+use model::MOST_TASKS;
 use table::Reading;
 use table::check;
 use table::refusal_of;
@@ -52,7 +58,7 @@ fn smallest(cells: &[u64], start: usize, m: usize) -> usize
 
 // Whether a mode keeps the cost of a cell in this column; the next row's cells start at `next`.
 fn keeps(need: u64, cost: u64, cells: &[u64], next: usize, column: usize, cell: u64) -> bool
-    requires { ⌜ next + column < length (now cells) ⌝ }
+    requires { ⌜ (next + column < length (now cells)) × (cost ≤ dearest) ⌝ }
     ensures { λ r. ⌜ r ≡ keepsCost (rowFrom (now (cells .entry)) next) column cell (held need cost) ⌝ }
 {
     if column < need as usize {
@@ -64,17 +70,17 @@ fn keeps(need: u64, cost: u64, cells: &[u64], next: usize, column: usize, cell: 
 // What the search found: whether each task has a mode that keeps its cell's cost, and those modes.
 struct Traced {
     pub all: bool,
-    pub modes: [u8; 32],
+    pub modes: [u8; MOST_TASKS],
 }
 
-// From column `used` of row 0, each task in turn gets the lowest permitted mode that keeps the cell's cost. A task's options are loaded
+// From column `used` of row 0, each task in turn gets the lowest permitted mode that keeps the cell's cost. A task's choices are loaded
 // once.
 fn trace(table: &[u8], common: u32, n: usize, m: usize, cells: &[u64], used: usize) -> Traced
     requires { ⌜ LawfulWith (now table) n m common ⌝ }
     requires { ⌜ (used ≤ m) × (cellCount n m ≤ length (now cells)) ⌝ }
     ensures { λ r. ⌜ TracedFrom (now (table .entry)) (now (cells .entry)) n used r ⌝ }
 {
-    let mut modes = [0u8; 32];
+    let mut modes = [0u8; MOST_TASKS];
     let mut i: usize = 0;
     let mut column = used;
     let mut start = n * (m + 1);
@@ -118,35 +124,20 @@ fn put(modes: &[u8], n: usize, out: &mut [u8])
     }
 }
 
-// Takes the plan: cores used and cost, and one byte per task into the output. Nothing is written before the last test.
-pub fn take(table: &[u8], cells: &[u64], progress: u32, out: &mut [u8]) -> Taken
-    ensures { λ r. ⌜ TookPlan (now (table .entry)) (now (cells .entry)) progress (now (out .entry)) r (now (out .exit)) ⌝ }
+// Takes the plan of a lawful table from a workspace and into an output that are long enough: cores used and cost, and one byte per task
+// into the output. Nothing is written before the last test.
+pub fn take_from(
+    table: &[u8],
+    common: u32,
+    n: usize,
+    m: usize,
+    cells: &[u64],
+    out: &mut [u8],
+) -> Taken
+    requires { ⌜ LawfulWith (now table) n m common ⌝ }
+    requires { ⌜ (cellCount n m ≤ length (now cells)) × (n ≤ length (now out)) ⌝ }
+    ensures { λ r. ⌜ TookFrom (now (table .entry)) (now (cells .entry)) (now (out .entry)) r (now (out .exit)) ⌝ }
 {
-    let got = check(table);
-    let Reading::Header {
-        tasks,
-        cores,
-        common,
-    } = got
-    else {
-        return Taken::Refused(refusal_of(got));
-    };
-    let n = tasks as usize;
-    let m = cores as usize;
-    let count = (n + 1) * (m + 1);
-    if cells.len() < count {
-        return refuse(15);
-    }
-    if out.len() < n {
-        return refuse(15);
-    }
-    let p = progress as usize;
-    if count < p {
-        return refuse(16);
-    }
-    if p < count {
-        return refuse(17);
-    }
     let start = n * (m + 1);
     let cost = reads(cells[start + m]);
     if cost == cells::MARK {
@@ -159,8 +150,51 @@ pub fn take(table: &[u8], cells: &[u64], progress: u32, out: &mut [u8]) -> Taken
     }
     let modes = found.modes;
     put(&modes, n, out);
-    Taken::Plan {
-        cores: used as u32,
-        cost,
+    let cores = used as u32;
+    Taken::Plan { cores, cost }
+}
+
+// The table's checks, then whether the workspace and the output are long enough for it: its header, or the first refusal.
+pub fn check_lent(table: &[u8], cells: usize, out: usize) -> Reading
+    ensures { λ r. ⌜ readingSaid r ≡ first (lentRows (now (table .entry)) cells out) (headerSaid (headerBlock (now (table .entry)))) ⌝ }
+{
+    let got = check(table);
+    let Reading::Header { tasks, cores, .. } = got else {
+        return got;
+    };
+    let n = tasks as usize;
+    let m = cores as usize;
+    if cells < (n + 1) * (m + 1) {
+        return Reading::Refused(Refusal { number: 15, at: 0 });
     }
+    if out < n {
+        return Reading::Refused(Refusal { number: 15, at: 0 });
+    }
+    got
+}
+
+// Takes the plan, after the table's checks and those of what is lent.
+pub fn take(table: &[u8], cells: &[u64], progress: u32, out: &mut [u8]) -> Taken
+    ensures { λ r. ⌜ TookPlan (now (table .entry)) (now (cells .entry)) progress (now (out .entry)) r (now (out .exit)) ⌝ }
+{
+    let got = check_lent(table, cells.len(), out.len());
+    let Reading::Header {
+        tasks,
+        cores,
+        common,
+    } = got
+    else {
+        return Taken::Refused(refusal_of(got));
+    };
+    let n = tasks as usize;
+    let m = cores as usize;
+    let count = (n + 1) * (m + 1);
+    let p = progress as usize;
+    if count < p {
+        return refuse(16);
+    }
+    if p < count {
+        return refuse(17);
+    }
+    take_from(table, common, n, m, cells, out)
 }

@@ -1,4 +1,3 @@
-pub mod Puts
-pub mod Filled
 pub mod Answers
+pub mod Refusals
 pub mod Settled

@@ -4,5 +4,5 @@
 pub mod Said
 -- the order of the writers' refusals, and what they leave of the buffer
 pub mod Order
--- what a put leaves of a buffer
-pub mod Puts
+-- nothing that has to be believed
+pub mod inner

@@ -3,10 +3,11 @@
 use Prim.Native.Nat.{ℕ, _*_}
 use mathlib.Core.Bool.{not, _||_}
 use mathlib.Core.List.{List, [], _∷_, _++_}
-use lib.Dec.{eqb, ltb}
+use lib.Dec.{eqb, leb, ltb}
 use lib.ListN.{length, drop}
 use Rattle.answer.specs.Said.{written}
 use Rattle.answer.specs.Order.{Row, row, Outcome}
+use Rattle.model.specs.Limits.{mostTasks}
 use Rattle.block.specs.Layout.{threes}
 use Rattle.block.specs.Tests.{wrongCommon, wrongLimits, wrongShape, wrongPermitted, modesRows}
 use Rattle.block.specs.Whole.{headerBytes, taskBytes}
@@ -24,11 +25,11 @@ limitRows n m H = row 5 0 (wrongLimits n m H) ∷ []
 unfoldable pub writeHeaderRows : ℕ → ℕ → ℕ → ℕ → List Row
 writeHeaderRows n m H room = limitRows n m H ++ roomRows room
 
--- ---- task: 5: H beyond its limits; 8: number above 31; 9: also if the figures lent aren't three per mode; 10; 11 to 13 by mode; 15
+-- ---- task: 5: H beyond its limits; 8: a number that no task can have; 9: also if the figures lent aren't three per mode; 10; 11 to 13 by mode; 15
 abbrev pub numberRows : ℕ → ℕ → ℕ → ℕ → ℕ → ℕ → List Row
 numberRows H number E modes permitted lent =
     row 5 0 (wrongCommon H)
-    ∷ row 8 0 (ltb 31 number)
+    ∷ row 8 0 (leb mostTasks number)
     ∷ row 9 0 (wrongShape E modes || not (eqb lent (3 * modes)))
     ∷ row 10 0 (wrongPermitted permitted modes)
     ∷ []

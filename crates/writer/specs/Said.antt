@@ -6,8 +6,3 @@ use Rattle.writer.specs.declared.Written.the-variants.{Refused, Done}
 abbrev pub said : Written → Said
 said (Refused r) = refused (r .number) (r .at)
 said Done = written
-
--- one answer, and where it is no refusal the next
-abbrev pub inTurn : Written → Written → Written
-inTurn (Refused r) next = Refused r
-inTurn Done next = next

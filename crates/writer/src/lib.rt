@@ -1,25 +1,23 @@
 // Writing the blocks of a table: the tests in the document's order, then the 512 bytes. Nothing is written before the last test.
 ghost use mathlib.Core.Path.{_≡_};
 ghost use mathlib.Core.Bool.{not, _||_};
-ghost use mathlib.Core.List.{[], _∷_, _++_};
-ghost use Prim.Native.Nat.{_+_, _-_, _*_, _≤_};
+ghost use Prim.Native.Nat.{_*_};
 ghost use lib.Dec.{eqb};
-ghost use lib.ListN.{length, replicate, take, drop};
 ghost use Rattle.answer.specs.Said.{refused, written};
 ghost use Rattle.answer.specs.Order.{first};
-ghost use Rattle.block.specs.Bytes.{asBytes, laid};
 ghost use Rattle.block.specs.Layout.{threes};
 ghost use Rattle.block.specs.Tests.{wrongShape, modesRows};
-ghost use Rattle.block.specs.Whole.{sealed, headerBytes, taskBytes};
-ghost use Rattle.writer.specs.Said.{said, inTurn};
+ghost use Rattle.writer.specs.Said.{said};
+ghost use Rattle.writer.specs.inner.Turns.{inTurn};
 ghost use Rattle.writer.specs.Order.{roomRows, limitRows, numberRows, WroteHeader, WroteTask};
-ghost use Rattle.writer.specs.Puts.{over, frontWidths};
 use answer::Refusal;
-use block::check_of;
 use block::wrong_common;
 use block::wrong_limits;
 use block::wrong_permitted;
 use block::wrong_shape;
+use model::MOST_TASKS;
+use puts::fill_header;
+use puts::fill_task;
 use table::Reading;
 use table::refusal_of;
 use table::test_figures;
@@ -45,102 +43,6 @@ fn in_turn(one: Written, next: Written) -> Written
         return one;
     };
     next
-}
-
-// Puts a number at an offset, as 1, 2 or 4 bytes, least significant first.
-fn put8(out: &mut [u8], at: usize, x: u8)
-    requires { ⌜ at + 1 ≤ length (now out) ⌝ }
-    ensures { λ _. ⌜ now (out .exit) ≡ over (now (out .entry)) at (asBytes 1 x) ⌝ }
-{
-    out[at] = x;
-}
-
-fn put16(out: &mut [u8], at: usize, x: u16)
-    requires { ⌜ at + 2 ≤ length (now out) ⌝ }
-    ensures { λ _. ⌜ now (out .exit) ≡ over (now (out .entry)) at (asBytes 2 x) ⌝ }
-{
-    out[at] = (x % 256) as u8;
-    out[at + 1] = (x / 256 % 256) as u8;
-}
-
-fn put32(out: &mut [u8], at: usize, x: u32)
-    requires { ⌜ at + 4 ≤ length (now out) ⌝ }
-    ensures { λ _. ⌜ now (out .exit) ≡ over (now (out .entry)) at (asBytes 4 x) ⌝ }
-{
-    out[at] = (x % 256) as u8;
-    out[at + 1] = (x / 256 % 256) as u8;
-    out[at + 2] = (x / 256 / 256 % 256) as u8;
-    out[at + 3] = (x / 256 / 256 / 256 % 256) as u8;
-}
-
-// Puts numbers of 32 bits one after the other from an offset on.
-fn put_all(out: &mut [u8], at: usize, figures: &[u32])
-    requires { ⌜ at + 4 * length (now figures) ≤ length (now out) ⌝ }
-    ensures { λ _. ⌜ now (out .exit) ≡ over (now (out .entry)) at (laid (replicate (length (now (figures .entry))) 4) (now (figures .entry))) ⌝ }
-{
-    for i in 0..figures.len() {
-        put32(out, at + 4 * i, figures[i]);
-    }
-}
-
-// Zero bytes from an offset up to the check.
-fn clear(out: &mut [u8], from: usize)
-    requires { ⌜ (from ≤ 508) × (508 ≤ length (now out)) ⌝ }
-    ensures { λ _. ⌜ now (out .exit) ≡ over (now (out .entry)) from (replicate (508 - from) 0) ⌝ }
-{
-    for i in from..508 {
-        out[i] = 0;
-    }
-}
-
-// Closes a block whose bytes with a meaning end at an offset: zero bytes, and the check.
-fn finish(out: &mut [u8], from: usize)
-    requires { ⌜ (from ≤ 508) × (512 ≤ length (now out)) ⌝ }
-    ensures { λ _. ⌜ now (out .exit) ≡ sealed (take from (now (out .entry))) ++ drop 512 (now (out .entry)) ⌝ }
-{
-    clear(out, from);
-    let check = check_of(out);
-    put32(out, 508, check);
-}
-
-// The first 8 bytes of a block: kind, edition, n, m and zero of a header; kind, E, mode count with the zero byte behind it, permitted modes
-// and number of a task.
-fn put_front(out: &mut [u8], kind: u8, second: u8, third: u16, fourth: u16, fifth: u16)
-    requires { ⌜ 8 ≤ length (now out) ⌝ }
-    ensures { λ _. ⌜ now (out .exit) ≡ over (now (out .entry)) 0 (laid frontWidths (kind ∷ second ∷ third ∷ fourth ∷ fifth ∷ [])) ⌝ }
-{
-    put8(out, 0, kind);
-    put8(out, 1, second);
-    put16(out, 2, third);
-    put16(out, 4, fourth);
-    put16(out, 6, fifth);
-}
-
-// The header block, in the first 512 bytes of a buffer.
-fn fill_header(out: &mut [u8], tasks: u16, cores: u16, common: u32)
-    requires { ⌜ 512 ≤ length (now out) ⌝ }
-    ensures { λ _. ⌜ now (out .exit) ≡ headerBytes tasks cores common ++ drop 512 (now (out .entry)) ⌝ }
-{
-    put_front(out, 1, 1, tasks, cores, 0);
-    put32(out, 8, common);
-    finish(out, 12);
-}
-
-// A task block, in the first 512 bytes of a buffer.
-fn fill_task(
-    out: &mut [u8],
-    number: u16,
-    elasticity: u8,
-    modes: u8,
-    permitted: u16,
-    figures: &[u32],
-)
-    requires { ⌜ (512 ≤ length (now out)) × (modes ≤ 16) × (length (now figures) ≡ 3 * modes) ⌝ }
-    ensures { λ _. ⌜ now (out .exit) ≡ taskBytes number elasticity modes permitted (now (figures .entry)) ++ drop 512 (now (out .entry)) ⌝ }
-{
-    put_front(out, 2, elasticity, modes as u16, permitted, number);
-    put_all(out, 8, figures);
-    finish(out, 8 + 12 * modes as usize);
 }
 
 // Whether a buffer has room for a block.
@@ -184,7 +86,7 @@ fn test_numbers(
     if wrong_common(common) {
         return refuse(5);
     }
-    if 31 < number {
+    if MOST_TASKS as u16 <= number {
         return refuse(8);
     }
     if wrong_lent(elasticity, modes, lent) {

@@ -53,38 +53,14 @@ fn trace(table: &[u8], header: &Header, cells: &[u64]) -> Result<(Plan, Vec<u8>)
     Ok((Plan { cores: used as u32, cost }, modes))
 }
 
-/// Fills the whole workspace in portions of `budget`, and takes the plan. A budget of 0 counts as
-/// all. Under a refusal the workspace holds what it held before.
-pub fn plan_whole(
-    table: &[u8],
-    cells: &mut [u64],
-    budget: u32,
-    out: &mut [u8],
-) -> Result<Plan, Refusal> {
+/// Fills the whole workspace and takes the plan. Under a refusal the workspace holds what it held
+/// before.
+pub fn plan_whole(table: &[u8], cells: &mut [u64], out: &mut [u8]) -> Result<Plan, Refusal> {
     let kept = cells.to_vec();
-    let plan = fill_and_take(table, cells, budget, out);
+    let filled = portion(table, cells, 0, u32::MAX);
+    let plan = filled.and_then(|progress| take(table, cells, progress, out));
     if plan.is_err() {
         cells.copy_from_slice(&kept);
     }
     plan
-}
-
-fn fill_and_take(
-    table: &[u8],
-    cells: &mut [u64],
-    budget: u32,
-    out: &mut [u8],
-) -> Result<Plan, Refusal> {
-    let budget = if budget == 0 { u32::MAX } else { budget };
-    let mut progress = 0;
-    loop {
-        let next = portion(table, cells, progress, budget)?;
-        let spent = next - progress;
-        progress = next;
-        // Every cell is filled where some of the budget is left.
-        if spent < budget {
-            break;
-        }
-    }
-    take(table, cells, progress, out)
 }

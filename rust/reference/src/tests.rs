@@ -40,17 +40,30 @@ fn altered(mut table: Vec<u8>, place: usize, byte: u8) -> Vec<u8> {
     table
 }
 
-fn plan(table: &[u8], budget: u32) -> Result<(Plan, Vec<u8>), Refusal> {
+fn plan(table: &[u8]) -> Result<(Plan, Vec<u8>), Refusal> {
     let header = check(table)?;
     let mut cells = vec![77; workspace_length(&header)];
     let mut modes = vec![0; usize::from(header.tasks)];
-    let plan = plan_whole(table, &mut cells, budget, &mut modes)?;
+    let plan = plan_whole(table, &mut cells, &mut modes)?;
+    Ok((plan, modes))
+}
+
+/// The plan by portions of a budget.
+fn plan_in_portions(table: &[u8], budget: u32) -> Result<(Plan, Vec<u8>), Refusal> {
+    let header = check(table)?;
+    let mut cells = vec![77; workspace_length(&header)];
+    let mut modes = vec![0; usize::from(header.tasks)];
+    let mut progress = 0;
+    while (progress as usize) < cells.len() {
+        progress = portion(table, &mut cells, progress, budget)?;
+    }
+    let plan = take(table, &cells, progress, &mut modes)?;
     Ok((plan, modes))
 }
 
 /// The lines of the program `plan`.
 fn lines(table: &[u8]) -> String {
-    match plan(table, 0) {
+    match plan(table) {
         Err(Refusal { number, at }) => format!("refused {number} at {at}\n"),
         Ok((Plan { cores, cost }, modes)) => {
             let header = check(table).unwrap();
@@ -204,7 +217,7 @@ fn the_whole_plan_refused_changes_nothing() {
         let mut cells = [77; 20];
         let mut out = [9; 2];
         let modes = &mut out[short..];
-        assert_eq!(plan_whole(&table, &mut cells, 7, modes), refusal(number, 0));
+        assert_eq!(plan_whole(&table, &mut cells, modes), refusal(number, 0));
         assert_eq!((cells, out), ([77; 20], [9; 2]));
     }
 }
@@ -262,8 +275,9 @@ fn the_plan_by_cells_is_the_plan_by_listing() {
     for _ in 0..4000 {
         let table = random_table(&mut random);
         let listed = plan_by_listing(&table);
-        let budget = random.one_of(&[0, 1, 2, 7, ALL]);
-        assert_eq!(plan(&table, budget), listed);
+        let budget = random.one_of(&[1, 2, 7, ALL]);
+        assert_eq!(plan_in_portions(&table, budget), listed);
+        assert_eq!(plan(&table), listed);
         refused += u32::from(listed == refusal(14, 0));
     }
     assert!((100..2000).contains(&refused), "{refused} of 4000 tables have no plan");

@@ -55,7 +55,7 @@
 //! let tasks = usize::from(header.tasks);
 //! let mut cells = vec![0; (tasks + 1) * (usize::from(header.cores) + 1)];
 //! let mut modes = vec![0; tasks];
-//! let plan = shunguleta::plan_whole(&table, &mut cells, 0, &mut modes)?;
+//! let plan = shunguleta::plan_whole(&table, &mut cells, &mut modes)?;
 //! println!("{} of {} cores, cost {}", plan.cores, header.cores, plan.cost);
 //! for (task, mode) in modes.iter().enumerate() {
 //!     println!("task {task}: mode {mode}");
@@ -240,16 +240,11 @@ pub fn write_task(
     Ok(())
 }
 
-/// Fills the whole workspace in portions of `budget` cells and takes the plan; a budget of 0 counts
-/// as all.
+/// Fills the whole workspace and takes the plan, with one check of the table for both.
 ///
-/// Refusals as for [`portion`] and [`take`]. Under any of them the workspace too is as it was.
-pub fn plan_whole(
-    table: &[u8],
-    cells: &mut [u64],
-    budget: u32,
-    out: &mut [u8],
-) -> Result<Plan, Refusal> {
-    let [cores, cost, _] = raw::plan_whole(table, cells, budget, out)?;
+/// Refusal 15 for a workspace, then for an output, that is too short, and 14 where no plan fits. Under
+/// any of them the workspace too is as it was.
+pub fn plan_whole(table: &[u8], cells: &mut [u64], out: &mut [u8]) -> Result<Plan, Refusal> {
+    let [cores, cost, _] = raw::plan_whole(table, cells, out)?;
     Ok(Plan { cores: cores as u32, cost })
 }

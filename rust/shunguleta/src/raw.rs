@@ -80,7 +80,6 @@ extern "C" {
         table_length: usize,
         cells: *mut u64,
         cells_length: usize,
-        budget: u32,
         out: *mut u8,
         out_length: usize,
     ) -> Reply;
@@ -165,7 +164,7 @@ pub(crate) fn write_task(
     .settle()
 }
 
-pub(crate) fn plan_whole(table: &[u8], cells: &mut [u64], budget: u32, out: &mut [u8]) -> Answer {
+pub(crate) fn plan_whole(table: &[u8], cells: &mut [u64], out: &mut [u8]) -> Answer {
     // SAFETY: the slices are lent for the call, and those that are written are the caller's alone.
     unsafe {
         shunguleta_plan_whole(
@@ -173,7 +172,6 @@ pub(crate) fn plan_whole(table: &[u8], cells: &mut [u64], budget: u32, out: &mut
             table.len(),
             cells.as_mut_ptr(),
             cells.len(),
-            budget,
             out.as_mut_ptr(),
             out.len(),
         )

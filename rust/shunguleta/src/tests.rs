@@ -41,7 +41,7 @@ fn a_null_table_of_no_bytes() {
             shunguleta_ask_mode(null(), 0, 0, 0),
             shunguleta_portion(null(), 0, lent, 15, 0, 1),
             shunguleta_take(null(), 0, lent, 15, 15, to, 2),
-            shunguleta_plan_whole(null(), 0, lent, 15, 0, to, 2),
+            shunguleta_plan_whole(null(), 0, lent, 15, to, 2),
         ]
     };
     assert_eq!(replies, [refused(1, 0); 6]);
@@ -58,7 +58,7 @@ fn a_null_workspace_of_no_cells() {
         [
             shunguleta_portion(bytes, 1536, null_mut(), 0, 0, 1),
             shunguleta_take(bytes, 1536, null(), 0, 15, to, 2),
-            shunguleta_plan_whole(bytes, 1536, null_mut(), 0, 0, to, 2),
+            shunguleta_plan_whole(bytes, 1536, null_mut(), 0, to, 2),
         ]
     };
     assert_eq!(replies, [refused(15, 0); 3]);
@@ -74,7 +74,7 @@ fn a_null_output_of_no_bytes() {
     let replies = unsafe {
         [
             shunguleta_take(bytes, 1536, lent, 15, 15, null_mut(), 0),
-            shunguleta_plan_whole(bytes, 1536, lent, 15, 0, null_mut(), 0),
+            shunguleta_plan_whole(bytes, 1536, lent, 15, null_mut(), 0),
             shunguleta_write_header(2, 4, 1000, null_mut(), 0),
             shunguleta_write_task(1000, 0, 1, 2, 0b11, FIRST.as_ptr(), 6, null_mut(), 0),
         ]
@@ -113,7 +113,7 @@ fn replies_of_every_call() {
         assert_eq!(shunguleta_portion(bytes, length, lent, 15, 14, 7), given([15, 0, 0]));
         let plan = given([4, 2_469_600_000, 0]);
         assert_eq!(shunguleta_take(bytes, length, lent, 15, 15, to, 512), plan);
-        assert_eq!(shunguleta_plan_whole(bytes, length, lent, 15, 7, to, 512), plan);
+        assert_eq!(shunguleta_plan_whole(bytes, length, lent, 15, to, 512), plan);
         assert_eq!(shunguleta_write_header(2, 4, 1000, to, 512), given([0; 3]));
         let figures = SECOND.as_ptr();
         let written = shunguleta_write_task(1000, 1, 2, 3, 7, figures, 9, to, 512);
@@ -148,7 +148,7 @@ fn the_sample() {
 fn the_sample_with_other_cores() {
     let plan = |cores| {
         let mut modes = [9; 2];
-        let plan = crate::plan_whole(&sample(cores), &mut [77; 21], 0, &mut modes)?;
+        let plan = crate::plan_whole(&sample(cores), &mut [77; 21], &mut modes)?;
         Ok((plan.cores, plan.cost, modes))
     };
     assert_eq!(plan(2), refusal(14, 0));
@@ -166,7 +166,7 @@ fn refusals() {
     assert_eq!(crate::portion(&table, &mut cells, 16, 1), refusal(16, 0));
     assert_eq!(crate::write_header(33, 4, 1000, &mut [9; 512]), refusal(5, 0));
     table[1024 + 509] ^= 1;
-    assert_eq!(crate::plan_whole(&table, &mut cells, 0, &mut [9; 2]), refusal(2, 2));
+    assert_eq!(crate::plan_whole(&table, &mut cells, &mut [9; 2]), refusal(2, 2));
     assert_eq!(cells, [77; 15]);
     assert_eq!(Refusal { number: 14, at: 0 }.to_string(), "refused 14 at 0");
 }

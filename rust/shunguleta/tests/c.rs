@@ -23,7 +23,7 @@ int main(void)
     replies[2] = shunguleta_ask_mode(NULL, 0, 0, 0);
     replies[3] = shunguleta_portion(NULL, 0, NULL, 0, 0, 1);
     replies[4] = shunguleta_take(NULL, 0, NULL, 0, 0, NULL, 0);
-    replies[5] = shunguleta_plan_whole(NULL, 0, NULL, 0, 0, NULL, 0);
+    replies[5] = shunguleta_plan_whole(NULL, 0, NULL, 0, NULL, 0);
     replies[6] = shunguleta_write_header(1, 1, 1, NULL, 0);
     replies[7] = shunguleta_write_task(1, 0, 1, 1, 1, NULL, 0, NULL, 0);
     for (i = 0; i < 6; i++)
@@ -84,6 +84,23 @@ fn the_example_prints_the_plan_of_the_sample() {
     let output = output_of(C, &root().join("examples/plan.c"), &file("plan"));
     assert!(output.status.success(), "{}", output.status);
     assert_eq!(text(&output.stdout), "plan 4 of 4 cost 2469600000\n0 0 2\n1 1 2\n");
+}
+
+#[test]
+fn no_call_takes_more_than_2_kb_of_stack() {
+    let program = file("stack");
+    let library = Path::new(env!("SHUNGULETA_LIBRARY"));
+    let source = Path::new(env!("CARGO_MANIFEST_DIR")).join("tests/stack.c");
+    compile(C, &[&source, library, Path::new("-Wl,-z,now"), Path::new("-o"), &program]);
+    let output = run(&mut Command::new(program));
+    assert!(output.status.success(), "{}", output.status);
+    let lines = text(&output.stdout);
+    println!("{lines}");
+    assert_eq!(lines.lines().count(), 8);
+    for line in lines.lines() {
+        let (name, bytes) = line.split_once(' ').unwrap();
+        assert!((1..=2048).contains(&bytes.parse::<u32>().unwrap()), "{name} takes {bytes} bytes");
+    }
 }
 
 #[test]

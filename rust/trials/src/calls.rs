@@ -34,7 +34,7 @@ pub enum Call {
     Take { progress: u32 },
     WriteHeader { tasks: u16, cores: u16, period: u32 },
     WriteTask { period: u32, number: u16, elasticity: u8, modes: u8, permitted: u16 },
-    PlanWhole { budget: u32 },
+    PlanWhole,
 }
 
 impl Call {
@@ -60,23 +60,20 @@ impl Call {
             Call::Take { .. } => 4,
             Call::WriteHeader { .. } => 5,
             Call::WriteTask { .. } => 6,
-            Call::PlanWhole { .. } => 7,
+            Call::PlanWhole => 7,
         }
     }
 
     /// Whether the call may change the workspace.
     pub fn fills(&self) -> bool {
-        matches!(self, Call::Portion { .. } | Call::PlanWhole { .. })
+        matches!(self, Call::Portion { .. } | Call::PlanWhole)
     }
 
     /// Whether the call may write to the output.
     pub fn writes(&self) -> bool {
         matches!(
             self,
-            Call::Take { .. }
-                | Call::WriteHeader { .. }
-                | Call::WriteTask { .. }
-                | Call::PlanWhole { .. }
+            Call::Take { .. } | Call::WriteHeader { .. } | Call::WriteTask { .. } | Call::PlanWhole
         )
     }
 }
@@ -120,7 +117,7 @@ macro_rules! side {
                     $planner::write_task(period, number, elasticity, modes, permitted, figures, out)
                         .map(|()| [0; 3])
                 }
-                Call::PlanWhole { budget } => $planner::plan_whole(table, cells, budget, out)
+                Call::PlanWhole => $planner::plan_whole(table, cells, out)
                     .map(|plan| [plan.cores.into(), plan.cost, 0]),
             };
             match answer {

@@ -245,7 +245,7 @@ impl Numbers {
                 numbers.modes = modes;
                 [period, number.into(), permitted.into()]
             }
-            Call::PlanWhole { budget } => [budget, 0, 0],
+            Call::PlanWhole => [0; 3],
         };
         numbers
     }
@@ -340,7 +340,7 @@ mod tests {
         let take = |name: &str| Case::new(name, Call::Take { progress: 15 }, &table).out(3);
         stored.add(take("fresh").cells(15));
         stored.add(take("short").cells(14).goes_on());
-        stored.add(Case::new("whole", Call::PlanWhole { budget: 0 }, &table));
+        stored.add(Case::new("whole", Call::PlanWhole, &table));
         let lines = "check: given 2 4 1000\n\
             portion: given 6 0 0 cells 77*3 258 0 18446744073709551615 77*10\n\
             fresh: refused 18 at 0 out 170*3\n\

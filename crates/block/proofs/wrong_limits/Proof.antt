@@ -3,8 +3,14 @@ use borrow.Author.Needs.{needs}
 use Rattle.block.proofs.wrong_limits.Statement.{statement}
 use Rattle.block.proofs.wrong_limits.Tie as tie
 
+cast-is-outside : tie.Need-cast-is-outside
+cast-is-outside c = search needs
+
 is-outside-requires : tie.Need-is-outside-requires
 is-outside-requires c κs = search needs
+
+cast-is-outside-2 : tie.Need-cast-is-outside-2
+cast-is-outside-2 c = search needs
 
 is-outside-requires-2 : tie.Need-is-outside-requires-2
 is-outside-requires-2 c κs = search needs
@@ -17,4 +23,4 @@ returns c = simp (c .before .before .is-outside .ensures, c .before .is-outside2
 
 pub wrong-limits-spec : {M : Type 1} → statement M
 wrong-limits-spec =
-    tie.close (tie.spec is-outside-requires is-outside-requires-2 wrong-common-requires returns)
+    tie.close (tie.spec cast-is-outside is-outside-requires cast-is-outside-2 is-outside-requires-2 wrong-common-requires returns)

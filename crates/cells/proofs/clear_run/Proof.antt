@@ -7,7 +7,7 @@ use lib.ListN.{length, length-set}
 use denote.Ref.{now}
 use Rattle.model.specs.Workspace.{fill}
 use Rattle.model.proofs.Fills.{fill-none, fill-turn, fill-done}
-use Rattle.cells.specs.Rows.{lastRow}
+use Rattle.cells.specs.inner.Rows.{lastRow}
 use Rattle.cells.proofs.clear_run.Statement.{statement}
 use Rattle.cells.proofs.clear_run.Tie as tie
 

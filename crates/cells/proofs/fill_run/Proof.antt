@@ -8,8 +8,8 @@ use lib.ListN.{length, length-set}
 use denote.Ref.{now}
 use Rattle.model.specs.Workspace.{Rule, fill}
 use Rattle.model.proofs.Fills.{fill-none, fill-turn, fill-done}
-use Rattle.cells.specs.Rows.{heldTask, taskRow}
-use Rattle.cells.specs.Held.{HeldRow}
+use Rattle.cells.specs.inner.Rows.{heldTask, taskRow}
+use Rattle.cells.specs.inner.Held.{HeldRow}
 use Rattle.cells.proofs.Held.{held-rule}
 use Rattle.cells.proofs.fill_run.Statement.{statement}
 use Rattle.cells.proofs.fill_run.Tie as tie

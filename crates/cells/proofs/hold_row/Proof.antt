@@ -4,19 +4,20 @@ use Prim.Native.Nat.{ℕ, _-_, _≤_}
 use native.Mathlib.Omega.{arith}
 use borrow.Author.Needs.{needs}
 use lib.ListN.{length, length-replicate, length-set}
-use Rattle.cells.specs.Held.{HeldRow}
+use Rattle.cells.specs.inner.Rows.{widest}
+use Rattle.cells.specs.inner.Held.{HeldRow}
 use Rattle.cells.proofs.Held.{hold-none, hold-more}
 use Rattle.cells.proofs.hold_row.Statement.{statement}
 use Rattle.cells.proofs.hold_row.Tie as tie
 
 abbrev Inv-loop : tie.InvT-loop
-Inv-loop cells next end row₀ c₀ row c = (c ≤ end) × (length row ≡ 65) × HeldRow cells next c row
+Inv-loop cells next end row₀ c₀ row c = (c ≤ end) × (length row ≡ widest) × HeldRow cells next c row
 
 abbrev μ-loop : tie.MeasureT-loop
 μ-loop cells next end row₀ c₀ row c = end - c
 
 loop-holds : tie.Need-loop-holds Inv-loop μ-loop
-loop-holds c = (omega arith, length-replicate {A = ℕ} 65 0, hold-none _ _ 65)
+loop-holds c = (omega arith, length-replicate {A = ℕ} widest 0, hold-none _ _ widest)
 
 add-count-of : tie.Need-add-count-of Inv-loop μ-loop
 add-count-of c = search needs

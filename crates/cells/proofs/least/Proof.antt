@@ -8,7 +8,7 @@ use lib.ListN.{length}
 use denote.Ref.{now}
 use Rattle.model.specs.Cells.{ceiling, reads}
 use Rattle.model.proofs.Sums.{reads-above}
-use Rattle.cells.specs.Rows.{rowFrom}
+use Rattle.cells.specs.inner.Rows.{rowFrom}
 use Rattle.cells.proofs.Offers.{leastFrom, least-le, least-step, least-end}
 use Rattle.cells.proofs.Held.{reads-min}
 use Rattle.cells.proofs.least.Statement.{statement}
@@ -40,7 +40,10 @@ shared-slice-read-offer-2 : tie.Need-shared-slice-read-offer-2 Inv-loop μ-loop
 shared-slice-read-offer-2 c = search needs
 
 offer-requires : tie.Need-offer-requires Inv-loop μ-loop
-offer-requires c κs = search needs
+offer-requires c κs =
+    let l = c .before .before .before in
+    let s = l .before .before .before .before in
+    (search needs, search needs, s .pre .3 (l .loop .j))
 
 lesser-requires : tie.Need-lesser-requires Inv-loop μ-loop
 lesser-requires c κs = search needs

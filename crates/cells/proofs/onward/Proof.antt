@@ -1,5 +1,5 @@
 -- `cells::onward` meets its contract. Assumes nothing.
-use mathlib.Core.Path.{ap₂, _∙_}
+use mathlib.Core.Path.{ap, _∙_}
 use Prim.Native.Nat.{ℕ, _+_, _-_}
 use native.Mathlib.Omega.{arith}
 use lib.ListN.{getD}
@@ -24,11 +24,8 @@ shared-slice-read-cell c = search needs
 count-of-requires : tie.Need-count-of-requires
 count-of-requires c κs = search needs
 
-count-of-requires-2 : tie.Need-count-of-requires-2
-count-of-requires-2 c κs = search needs
-
 add-reads : tie.Need-add-reads
-add-reads c = omega (arith, counted _ _ (c .before .count-of .ensures), counted _ _ (c .count-of2 .ensures))
+add-reads c = omega (arith, counted _ _ (c .count-of .ensures))
 
 reads-requires : tie.Need-reads-requires
 reads-requires c κs = search needs
@@ -37,9 +34,9 @@ returns : tie.Need-returns
 unfolding onward
 returns c =
     let o = c .before in
-    let a = o .before .before .before .before .args in
+    let a = o .before .before .before .args in
     c .reads .ensures
-    ∙ ap₂ (λ (x y : ℕ). reads (x + y)) (o .before .count-of .ensures) (o .count-of2 .ensures)
+    ∙ ap (λ (y : ℕ). reads (a .cost + y)) (o .count-of .ensures)
     ∙ counts-sum (a .cost) (getD (a .cells .now) (a .next + (a .column - a .need)) 0)
 
 pub onward-spec : {M : Type 1} → statement M
@@ -51,7 +48,6 @@ onward-spec =
     mul-cell
     shared-slice-read-cell
     count-of-requires
-    count-of-requires-2
     add-reads
     reads-requires
     returns)

@@ -11,11 +11,11 @@ use Rattle.answer.proofs.Elses.{passed}
 use Rattle.answer.proofs.Outcomes.{joined}
 use Rattle.model.specs.Workspace.{cellCount, fill, advance}
 use Rattle.table.specs.Order.{headerBlock, headerSaid, tableRows}
-use Rattle.table.specs.Lawful.{LawfulWith}
+use Rattle.table.specs.inner.Accepted.{LawfulWith}
 use Rattle.table.proofs.Readings.{reading, handed-else}
 use Rattle.table.proofs.Accepted.{accepted-with}
-use Rattle.options.specs.Tasks.{cellsOfTable}
-use Rattle.options.proofs.Tables.{count-is, count-most}
+use Rattle.choices.specs.Tasks.{cellsOfTable}
+use Rattle.choices.proofs.Tables.{count-is, count-most}
 use Rattle.portions.specs.Portion.{ownRows, portionRows, ruleOf}
 use Rattle.portions.proofs.Ends.{rest, after, Ends, short, above, done, portioned}
 use borrow.Author.Needs.{needs}

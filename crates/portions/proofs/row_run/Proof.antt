@@ -3,7 +3,7 @@ use mathlib.Core.Path.{_∙_}
 use Prim.Native.Nat.{_+_, _-_, _/_, _<_}
 use native.Mathlib.Nat.{mod-le, mod-lt}
 use native.Mathlib.Omega.{arith}
-use Rattle.options.proofs.Tables.{block-limits, block-meets}
+use Rattle.choices.proofs.Tables.{block-limits, block-meets}
 use Rattle.portions.proofs.Rows.{row-within, stretch-before}
 use Rattle.portions.proofs.Runs.{clear-row, task-row}
 use borrow.Author.Needs.{needs}

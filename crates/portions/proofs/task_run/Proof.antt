@@ -1,7 +1,7 @@
 -- `portions::task_run` meets its contract. Assumes nothing.
 use mathlib.Core.Path.{_∙_}
 use Rattle.table.specs.Numbers.{taskNumbersIn}
-use Rattle.portions.proofs.Loaded.{loaded}
+use Rattle.portions.proofs.Loaded.{loaded-costs, loaded}
 use borrow.Author.Needs.{needs}
 use Rattle.portions.proofs.task_run.Statement.{statement}
 use Rattle.portions.proofs.task_run.Tie as tie
@@ -34,7 +34,17 @@ part-fill-run-end-2 : tie.Need-part-fill-run-end-2
 part-fill-run-end-2 c = search needs
 
 fill-run-requires : tie.Need-fill-run-requires
-fill-run-requires c κs = search needs
+fill-run-requires c κs =
+    let o = c .before .before .before .before .before in
+    let s = o .before .before .before .before .before in
+    let a = s .args in (
+      (
+        search needs,
+        loaded-costs (a .common) (taskNumbersIn (a .block .now)) (s .pre .0 .0) (s .pre .0 .1) (o .costs .result) (o .before .before .modes .result)
+            (o .costs .ensures) (o .before .before .modes .ensures),
+      ),
+      search needs,
+    )
 
 same-length : tie.Need-same-length
 same-length c = search needs

@@ -1,6 +1,6 @@
 -- `table::refusal_of` meets its contract. Assumes nothing.
 use mathlib.Core.Path.{sym, ap}
-use Rattle.table.specs.Said.{refusalOf}
+use Rattle.table.specs.inner.Refusals.{refusalOf}
 use Rattle.table.proofs.Readings.{no-refusal}
 use borrow.Author.Needs.{needs}
 use Rattle.table.proofs.refusal_of.Statement.{statement}

@@ -6,7 +6,7 @@ use mathlib.Core.Path.{_≡_, sym, ap, _∙_}
 use mathlib.Core.Logic.{_≢_}
 use borrow.Author.Needs.{needs}
 use borrow.Author.Count.{below-more, below-none}
-use Rattle.cells.specs.Rows.{rowFrom}
+use Rattle.cells.specs.inner.Rows.{rowFrom}
 use Rattle.taking.proofs.Searches.{used-is}
 use Rattle.taking.proofs.smallest.Statement.{statement}
 use Rattle.taking.proofs.smallest.Tie as tie

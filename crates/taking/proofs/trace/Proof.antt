@@ -10,11 +10,12 @@ use borrow.Author.Needs.{needs, scaled-fits}
 use borrow.Author.Count.{below-more, below-none}
 use lib.ListN.{length, getD}
 use Rattle.answer.proofs.Bools.{clash}
+use Rattle.model.specs.Limits.{mostTasks, mostCores}
 use Rattle.model.specs.Taking.{keeps}
 use Rattle.model.proofs.Least.{keeps-true}
-use Rattle.cells.specs.Rows.{rowFrom}
-use Rattle.options.specs.Tasks.{tasksOfTable}
-use Rattle.options.proofs.Tables.{block-limits}
+use Rattle.cells.specs.inner.Rows.{rowFrom}
+use Rattle.choices.specs.Tasks.{tasksOfTable}
+use Rattle.choices.proofs.Tables.{few-tasks, few-cores, block-limits}
 use Rattle.taking.proofs.Helds.{heldAt, HeldAs, block-held}
 use Rattle.taking.proofs.Tracing.{AtTask, done, all-done, in-ws, next-below, next-in-ws, stuck, step}
 use Rattle.taking.proofs.trace.Statement.{statement}
@@ -33,21 +34,13 @@ Inv-tasks table common n m cells used modes₀ i₀ column₀ start₀ modes i c
 abbrev μ-tasks : tie.MeasureT-tasks
 μ-tasks table common n m cells used modes₀ i₀ column₀ start₀ modes i column start = n - i
 
--- the table is within the limits
-module _ (s : tie.Start Inv-lowest μ-lowest Inv-tasks μ-tasks) where
-  few : s .args .n ≤ 32
-  few = let l = s .pre .0 in rw (← l .tasks) (l .table .numbers .header .tasks-high)
-
-  narrow : s .args .m ≤ 64
-  narrow = let l = s .pre .0 in rw (← l .cores) (l .table .numbers .header .cores-high)
-
 add-start : tie.Need-add-start Inv-lowest μ-lowest Inv-tasks μ-tasks
-add-start c = omega (arith, narrow (c .before .before))
+add-start c = omega (arith, few-cores (c .before .before .pre .0))
 
 mul-start : tie.Need-mul-start Inv-lowest μ-lowest Inv-tasks μ-tasks
 mul-start c =
     let s = c .before .before in
-    let h : s .args .n * (s .args .m + 1) ≤ 32 * 65 = mul-le-mul {n₂ = 32} {m₂ = 65} (few s) (omega (arith, narrow s)) in
+    let h : s .args .n * (s .args .m + 1) ≤ mostTasks * (mostCores + 1) = mul-le-mul {n₂ = mostTasks} {m₂ = mostCores + 1} (few-tasks (s .pre .0)) (omega (arith, few-cores (s .pre .0))) in
     omega (arith, h)
 
 tasks-holds : tie.Need-tasks-holds Inv-lowest μ-lowest Inv-tasks μ-tasks
@@ -92,7 +85,7 @@ sub-next : tie.Need-sub-next Inv-lowest μ-lowest Inv-tasks μ-tasks
 sub-next c = let t = c .before .before in next-below (S t .pre .0) (t .before .tasks .inv) (S t .pre .1 .1) (more t)
 
 cast-task-block : tie.Need-cast-task-block Inv-lowest μ-lowest Inv-tasks μ-tasks
-cast-task-block c = let t = c .before .before in omega (arith, more t, few (S t))
+cast-task-block c = let t = c .before .before in omega (arith, more t, few-tasks (S t .pre .0))
 
 task-block-requires : tie.Need-task-block-requires Inv-lowest μ-lowest Inv-tasks μ-tasks
 task-block-requires c κs = search needs
@@ -110,7 +103,7 @@ costs-requires c κs =
     let t = c .before .before .before .before .before in
     block-limits (S t .pre .0) (t .before .tasks .i) (more t) _ (c .before .before .task-block .ensures .bytes)
 
--- its options are loaded
+-- its choices are loaded
 module _ (c : tie.After-costs Inv-lowest μ-lowest Inv-tasks μ-tasks) where
   abbrev T : tie.Else1 Inv-lowest μ-lowest Inv-tasks μ-tasks
   T = c .before .before .before .before .before .before
@@ -150,7 +143,7 @@ array-read-keeps-2 c = in-array c
 keeps-requires : tie.Need-keeps-requires Inv-lowest μ-lowest Inv-tasks μ-tasks
 keeps-requires c κs =
     let t = T (C c) in
-    next-in-ws (S t .pre .0) (t .before .tasks .inv) (S t .pre .1 .1) (more t)
+    (next-in-ws (S t .pre .0) (t .before .tasks .inv) (S t .pre .1 .1) (more t), loaded (C c) .priced (c .before .lowest .j) (at-hand c))
 
 mul-cores : tie.Need-mul-cores Inv-lowest μ-lowest Inv-tasks μ-tasks
 mul-cores c = omega (arith, in-array (c .before .before))
@@ -173,13 +166,13 @@ cast-modes : tie.Need-cast-modes Inv-lowest μ-lowest Inv-tasks μ-tasks
 cast-modes c = omega (arith, in-array (c .before .before))
 
 array-write-modes : tie.Need-array-write-modes Inv-lowest μ-lowest Inv-tasks μ-tasks
-array-write-modes c = let t = T (C (c .before .before)) in omega (arith, more t, few (S t))
+array-write-modes c = let t = T (C (c .before .before)) in omega (arith, more t, few-tasks (S t .pre .0))
 
 sub-column : tie.Need-sub-column Inv-lowest μ-lowest Inv-tasks μ-tasks
 sub-column c = keeps-true _ _ _ _ (sym (c .before .keeps .ensures) ∙ c .if3 .taken) .1
 
 add-i : tie.Need-add-i Inv-lowest μ-lowest Inv-tasks μ-tasks
-add-i c = let t = T (C (c .before .before)) in omega (arith, more t, few (S t))
+add-i c = let t = T (C (c .before .before)) in omega (arith, more t, few-tasks (S t .pre .0))
 
 tasks-less : tie.Need-tasks-less Inv-lowest μ-lowest Inv-tasks μ-tasks
 tasks-less c = let t = T (C (c .before .before)) in omega (arith, more t)

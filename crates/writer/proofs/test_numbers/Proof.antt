@@ -1,7 +1,7 @@
 -- `writer::test_numbers` meets its contract. Each test that is not given leaves the rows behind it. Assumes nothing.
 use mathlib.Core.Path.{sym, _∙_}
 use Prim.Native.Nat.{ℕ}
-use borrow.Author.Tests.{lt-ltb, le-ltb}
+use borrow.Author.Tests.{lt-leb, le-leb}
 use Rattle.answer.specs.Said.{written}
 use Rattle.answer.proofs.Bools.{found}
 use Rattle.answer.proofs.Rows.{Past}
@@ -25,6 +25,9 @@ refuse-requires c κs = search needs
 returns : tie.Need-returns
 returns c = c .refuse .ensures ∙ sym (rw (found (c .before .before .wrong-common .ensures) (c .before .if1 .taken)))
 
+cast-if2 : tie.Need-cast-if2
+cast-if2 c = search needs
+
 refuse-requires-2 : tie.Need-refuse-requires-2
 refuse-requires-2 c κs = search needs
 
@@ -32,7 +35,7 @@ on1 : (c : tie.Else1) → Went (c .before .before) 1
 on1 c = rw (found (c .before .wrong-common .ensures) (c .if1 .left))
 
 returns-2 : tie.Need-returns-2
-returns-2 c = c .refuse2 .ensures ∙ sym (on1 (c .before .before) ∙ rw (lt-ltb _ _ (c .before .if2 .taken)))
+returns-2 c = c .refuse2 .ensures ∙ sym (on1 (c .before .before) ∙ rw (le-leb _ _ (c .before .if2 .taken)))
 
 wrong-lent-requires : tie.Need-wrong-lent-requires
 wrong-lent-requires c κs = search needs
@@ -41,7 +44,7 @@ refuse-requires-3 : tie.Need-refuse-requires-3
 refuse-requires-3 c κs = search needs
 
 on2 : (c : tie.Else2) → Went (c .before .before .before) 2
-on2 c = on1 (c .before) ∙ rw (le-ltb _ _ (c .if2 .left))
+on2 c = on1 (c .before) ∙ rw (lt-leb _ _ (c .if2 .left))
 
 returns-3 : tie.Need-returns-3
 returns-3 c = c .refuse3 .ensures
@@ -70,6 +73,7 @@ test-numbers-spec =
     wrong-common-requires
     refuse-requires
     returns
+    cast-if2
     refuse-requires-2
     returns-2
     wrong-lent-requires

@@ -1,24 +1,20 @@
 -- `writer::write_task` meets its contract. Assumes nothing.
 use mathlib.Core.Path.{_≡_, ap, _∙_}
-use mathlib.Core.Bool.{not}
 use mathlib.Core.List.{List, [], _∷_, _++_}
-use Prim.Native.Nat.{ℕ, _*_}
-use lib.Dec.{eqb}
+use Prim.Native.Nat.{ℕ}
 use lib.ListN.{length, drop}
-use borrow.Author.Tests.{ltb-false}
 use Rattle.answer.specs.Said.{written}
 use Rattle.answer.specs.Order.{Row, first, afterwards, NoneGiven}
-use Rattle.answer.proofs.Bools.{or-false}
-use Rattle.answer.proofs.Rows.{none-append, append-none}
+use Rattle.answer.proofs.Rows.{append-none}
 use Rattle.answer.proofs.Elses.{kept, passed, answered}
 use Rattle.answer.proofs.Outcomes.{goes, joined, behind}
 use Rattle.block.specs.Layout.{threes}
-use Rattle.block.specs.Tests.{outside, wrongShape, modesRows}
+use Rattle.block.specs.Tests.{modesRows}
 use Rattle.block.specs.Whole.{taskBytes}
-use Rattle.table.proofs.Limits.{inside, is}
 use Rattle.writer.specs.Said.{said}
 use Rattle.writer.specs.Order.{numberRows, roomRows, writeTaskRows}
 use Rattle.writer.proofs.Answers.{writing, rows-in-turn}
+use Rattle.writer.proofs.Refusals.{task-passed}
 use borrow.Author.Needs.{needs}
 use Rattle.writer.proofs.write_task.Statement.{statement}
 use Rattle.writer.proofs.write_task.Tie as tie
@@ -117,14 +113,13 @@ none c =
     )
 
 fill-task-requires : tie.Need-fill-task-requires
+unfolding writeTaskRows
 fill-task-requires c κs =
     let k = c .before .before in
     let s = k .before .before .before .before .before .before .before .before .before in
     let a = s .args in
-    let nine = or-false (wrongShape (a .elasticity) (a .modes)) (not (eqb (length (a .figures .now)) (3 * a .modes))) (none k .0 .1 .1 .0) in
-    let shape = or-false (outside 1 10 (a .elasticity)) (outside 1 16 (a .modes)) (nine .0) in
-    let room = none-append (ofModes s) (ofRoom s) (none k .1) .1 in
-    (ltb-false _ _ (room .0), inside 1 16 (a .modes) (shape .1) .1, is (length (a .figures .now)) (3 * a .modes) (nine .1))
+    task-passed (a .common) (a .number) (a .elasticity) (a .modes) (a .permitted) (a .figures .now) (length (a .out .now))
+    (append-none (ofNumbers s) (ofModes s ++ ofRoom s) (none k .0) (none k .1))
 
 same-length : tie.Need-same-length
 same-length c = search needs

@@ -26,8 +26,6 @@ const REFUSALS: usize = 19;
 const GUARDS: usize = 64;
 /// Cells that a workspace may have beyond those that are needed.
 const MORE_CELLS: usize = 16;
-/// Blocks that the portions of one whole plan may check in all, for the sake of time.
-const MOST_CHECKED: u64 = 3000;
 /// Selections that are listed for one plan at most.
 const MOST_LISTED: u64 = 1000;
 
@@ -187,7 +185,7 @@ impl Fuzz {
         scene.cells[..cells].copy_from_slice(after.cells.lent());
         match call {
             Call::Portion { .. } if reply.number == 0 => scene.progress = reply.values[0] as u32,
-            Call::PlanWhole { .. } if !damaged => self.listing(scene, reply, &after)?,
+            Call::PlanWhole if !damaged => self.listing(scene, reply, &after)?,
             _ => {}
         }
         Ok(())
@@ -333,14 +331,7 @@ impl Fuzz {
                 let progress = if self.random.once_in(4) { self.number(all) } else { all };
                 Call::Take { progress }
             }
-            _ => {
-                let budget = self.number(all);
-                let blocks = scene.bytes.len() as u64 / BLOCK as u64;
-                // A small budget has the table checked for every few cells.
-                let least = u64::from(all) * blocks / MOST_CHECKED;
-                let budget = if budget == 0 { 0 } else { budget.max(least as u32) };
-                Call::PlanWhole { budget }
-            }
+            _ => Call::PlanWhole,
         }
     }
 

@@ -1,6 +1,6 @@
 //! Document 01's examples.
 
-use super::{checked, given, one_mode, refused, whole, ALL};
+use super::{checked, given, one_mode, refused, whole};
 use crate::calls::Call;
 use crate::stored::{Case, Stored};
 use crate::tables::{Table, Task};
@@ -31,7 +31,7 @@ pub(super) fn add(stored: &mut Stored) {
     other_cores(stored);
     fractions(stored);
     let tie = Task::new(1, &[[1200, 900, 1000], [1200, 200, 1000]]);
-    given(stored, whole("tie of cost", &Table::new(1000, 4, &[tie]), 0), [2, 0, 0]);
+    given(stored, whole("tie of cost", &Table::new(1000, 4, &[tie])), [2, 0, 0]);
     checked(stored, "no bytes", &[], 1, 0);
     checked(stored, "one block of zeros", &[0; 512], 3, 0);
 }
@@ -42,7 +42,7 @@ fn cores(stored: &mut Stored) {
         let found = stored.add_cores(mode);
         assert_eq!(found.unwrap_or(0), need.into(), "the cores of {mode:?}");
         let name = |cores| format!("cores of ({work}, {span}, {period}), m {cores}");
-        let case = |cores| whole(name(cores), &one_mode(period, cores, mode), 0);
+        let case = |cores| whole(name(cores), &one_mode(period, cores, mode));
         match need {
             0 => refused(stored, case(64), 13, 1),
             65.. => refused(stored, case(64), 14, 0),
@@ -62,7 +62,7 @@ fn alone(stored: &mut Stored) {
         for (mode, &[cores, cost]) in modes.iter().enumerate() {
             let only = Table::sample(4).tasks[task].clone().permitting(1 << mode);
             let name = format!("sample: task {task} mode {mode} alone");
-            given(stored, whole(name, &Table::new(1000, 4, &[only]), 0), [cores, cost, 0]);
+            given(stored, whole(name, &Table::new(1000, 4, &[only])), [cores, cost, 0]);
         }
     }
 }
@@ -94,10 +94,7 @@ fn sample(stored: &mut Stored) {
         let name = format!("sample: task {number} written");
         given(stored, Case::new(name, call, &[]).figures(&task.figures()).out(512), [0; 3]);
     }
-    for budget in [0, 1, 7, 15, 16, ALL] {
-        let case = whole(format!("sample: whole plan, budget {budget}"), &sample, budget);
-        given(stored, case, [4, 2_469_600_000, 0]);
-    }
+    given(stored, whole("sample: whole plan", &sample), [4, 2_469_600_000, 0]);
     for (progress, next) in [(0, 7), (7, 14), (14, 15)] {
         let call = Call::Portion { progress, budget: 7 };
         let case = Case::new(format!("sample: budget 7 from {progress}"), call, &table).cells(15);
@@ -109,7 +106,7 @@ fn sample(stored: &mut Stored) {
 }
 
 fn other_cores(stored: &mut Stored) {
-    let case = |cores| whole(format!("sample, m {cores}"), &Table::sample(cores), 0);
+    let case = |cores| whole(format!("sample, m {cores}"), &Table::sample(cores));
     refused(stored, case(1), 14, 0);
     refused(stored, case(2), 14, 0);
     given(stored, case(3), [3, 4_510_800_000, 0]);
@@ -119,7 +116,7 @@ fn other_cores(stored: &mut Stored) {
     given(stored, case(64), [6, 0, 0]);
     let mut narrowed = Table::sample(4);
     narrowed.tasks[0].permitted = 0b10;
-    let case = whole("sample, task 0 permitted only mode 1", &narrowed, 0);
+    let case = whole("sample, task 0 permitted only mode 1", &narrowed);
     given(stored, case, [3, 4_510_800_000, 0]);
 }
 
@@ -128,5 +125,5 @@ fn fractions(stored: &mut Stored) {
     let first = Task::new(1, &[[1900, 100, 1000], [1000, 100, 1000]]);
     let second = Task::new(1, &[[2050, 100, 1000], [1900, 100, 1000]]);
     let table = Table::new(1000, 4, &[first, second]);
-    given(stored, whole("fractions of utilization", &table, 0), [4, 2520 * 150 * 150, 0]);
+    given(stored, whole("fractions of utilization", &table), [4, 2520 * 150 * 150, 0]);
 }

@@ -22,7 +22,7 @@ fn dearest(stored: &mut Stored) {
     let table = Table::new(100_000, 64, &vec![task; 32]);
     let bytes = table.bytes();
     let cost = 32 * 2520 * 6_399_999u64.pow(2);
-    given(stored, whole("dearest plan", &table, 0), [32, cost, 0]);
+    given(stored, whole("dearest plan", &table), [32, cost, 0]);
     let take = |name: &str| {
         Case::new(name, Call::Take { progress: W }, &bytes).cells(CELLS).out(40).goes_on()
     };
@@ -34,7 +34,7 @@ fn dearest(stored: &mut Stored) {
     let case = (CELLS - 65..last).fold(case, |case, cell| case.altering(cell, MARK));
     given(stored, case, [64, cost, 0]);
     let narrow = Table { cores: 31, ..table };
-    refused(stored, whole("dearest plan, one core too few", &narrow, 0), 14, 0);
+    refused(stored, whole("dearest plan, one core too few", &narrow), 14, 0);
 }
 
 /// 16 modes a task, of all periods.
@@ -59,7 +59,7 @@ fn mixed(stored: &mut Stored) {
     let case = Case::new("largest: task 32", Call::AskTask { task: 32 }, &bytes);
     refused(stored, case, 19, 0);
 
-    let plan = stored.add(whole("largest: whole plan", &table, 0));
+    let plan = stored.add(whole("largest: whole plan", &table));
     assert_eq!(plan.number, 0);
     let take = |name: &str, progress| {
         let case = Case::new(format!("largest: {name}"), Call::Take { progress }, &bytes);
@@ -74,9 +74,9 @@ fn mixed(stored: &mut Stored) {
     for cell in [2079, 2080, 1000, 64, 0] {
         stored.add(take(&format!("plan taken with 1 in cell {cell}"), W).altering(cell, 1));
     }
-    let case = whole("largest: whole plan, workspace of 2144", &table, 0).cells(CELLS - 1);
+    let case = whole("largest: whole plan, workspace of 2144", &table).cells(CELLS - 1);
     refused(stored, case, 15, 0);
-    refused(stored, whole("largest: whole plan, output of 31", &table, 500).out(31), 15, 0);
+    refused(stored, whole("largest: whole plan, output of 31", &table).out(31), 15, 0);
 
     let portion = |progress, budget| {
         let call = Call::Portion { progress, budget };
@@ -92,8 +92,6 @@ fn mixed(stored: &mut Stored) {
     given(stored, portion(2145, ALL), [2145, 0, 0]);
     refused(stored, portion(2146, 0), 16, 0);
     refused(stored, portion(ALL, ALL), 16, 0);
-    let budgets = whole("largest: whole plan, budget 1000", &table, 1000);
-    given(stored, budgets, plan.values);
 
     let mut damaged = bytes.clone();
     damaged[32 * 512 + 508] ^= 1;
@@ -113,11 +111,11 @@ fn mixed(stored: &mut Stored) {
 fn none_fits(stored: &mut Stored) {
     let task = Task::new(10, &[[100_000, 50_000, 100_000], [200_000, 50_000, 100_000]]);
     let table = Table::new(100_000, 64, &vec![task.clone().permitting(0b10); 32]);
-    refused(stored, whole("32 tasks of 3 cores, m 64", &table, 0), 14, 0);
+    refused(stored, whole("32 tasks of 3 cores, m 64", &table), 14, 0);
     let table = Table::new(100_000, 64, &vec![task.permitting(0b01); 32]);
-    given(stored, whole("32 tasks of 1 core, m 64", &table, 0), [32, 0, 0]);
+    given(stored, whole("32 tasks of 1 core, m 64", &table), [32, 0, 0]);
     let table = Table { cores: 32, ..table };
-    given(stored, whole("32 tasks of 1 core, m 32", &table, 100), [32, 0, 0]);
+    given(stored, whole("32 tasks of 1 core, m 32", &table), [32, 0, 0]);
     let table = Table { cores: 31, ..table };
-    refused(stored, whole("32 tasks of 1 core, m 31", &table, 100), 14, 0);
+    refused(stored, whole("32 tasks of 1 core, m 31", &table), 14, 0);
 }

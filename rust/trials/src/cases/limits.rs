@@ -139,7 +139,7 @@ fn task(stored: &mut Stored) {
     for elasticity in 1..=10 {
         let task = Task::new(elasticity, &[[9, 5, 6], [2, 1, 6]]).permitting(0b10);
         let cost = 2520 / u64::from(elasticity) * 49;
-        let case = whole(format!("E {elasticity}"), &Table::new(6, 1, &[task]), 0);
+        let case = whole(format!("E {elasticity}"), &Table::new(6, 1, &[task]));
         given(stored, case, [1, cost, 0]);
     }
     for (count, number) in [(0, 9), (1, 0), (16, 0), (17, 9)] {
@@ -213,7 +213,7 @@ fn figures(stored: &mut Stored) {
     }
     for (work, number) in [(6_399_937, 0), (6_399_938, 14), (6_400_000, 14)] {
         let table = one_mode(100_000, 64, [work, 1, 100_000]);
-        let case = whole(format!("plan of one mode of work {work}"), &table, 0);
+        let case = whole(format!("plan of one mode of work {work}"), &table);
         settled(stored, case, number, [64, 0, 0]);
     }
 }
@@ -253,7 +253,7 @@ fn buffers(stored: &mut Stored) {
         let call = Call::Portion { progress: 0, budget: ALL };
         let case = Case::new(format!("portion over {cells} cells"), call, &table).cells(cells);
         settled(stored, case, number, [15, 0, 0]);
-        let case = whole(format!("whole plan over {cells} cells"), &sample, 0).cells(cells);
+        let case = whole(format!("whole plan over {cells} cells"), &sample).cells(cells);
         settled(stored, case, number, PLAN);
         let case = take(format!("plan taken from {cells} cells"), 15).cells(cells);
         settled(stored, case, number, PLAN);
@@ -267,7 +267,7 @@ fn buffers(stored: &mut Stored) {
         settled(stored, case, number, PLAN);
     }
     for (out, number) in [(0, 15), (1, 15), (2, 0), (3, 0)] {
-        let case = whole(format!("whole plan, output of {out}"), &sample, 7).out(out);
+        let case = whole(format!("whole plan, output of {out}"), &sample).out(out);
         settled(stored, case, number, PLAN);
     }
 }

@@ -63,9 +63,8 @@ fn checked(stored: &mut Stored, name: impl Into<String>, table: &[u8], number: u
 }
 
 /// The whole plan of a table, with a workspace and an output of just the length it needs.
-fn whole(name: impl Into<String>, table: &Table, budget: u32) -> Case {
-    let call = Call::PlanWhole { budget };
-    Case::new(name, call, &table.bytes()).cells(table.cells()).out(table.tasks.len())
+fn whole(name: impl Into<String>, table: &Table) -> Case {
+    Case::new(name, Call::PlanWhole, &table.bytes()).cells(table.cells()).out(table.tasks.len())
 }
 
 /// A table's bytes with some of them changed, and the checks right.

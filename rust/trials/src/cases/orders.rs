@@ -226,12 +226,12 @@ fn after_the_table(stored: &mut Stored) {
     refused(stored, Case::new("length before all of taking", take, &slow[..1024]), 7, 0);
     let none = Call::AskTask { task: 2 };
     refused(stored, Case::new("span before no such task", none, &slow), 13, 2);
-    let call = Call::PlanWhole { budget: 1 };
-    refused(stored, Case::new("span before all of the whole plan", call, &slow), 13, 2);
+    let whole_plan = Call::PlanWhole;
+    refused(stored, Case::new("span before all of the whole plan", whole_plan, &slow), 13, 2);
     let none = Table::sample(2);
-    refused(stored, whole("whole plan: output before no plan", &none, 1).out(1), 15, 0);
-    refused(stored, whole("whole plan: workspace before output", &none, 1).cells(8).out(1), 15, 0);
-    refused(stored, whole("whole plan: no plan, budget 1", &none, 1), 14, 0);
+    refused(stored, whole("whole plan: output before no plan", &none).out(1), 15, 0);
+    refused(stored, whole("whole plan: workspace before output", &none).cells(8).out(1), 15, 0);
+    refused(stored, whole("whole plan: no plan", &none), 14, 0);
     let mut mended = wrong.clone();
     mend(&mut mended);
     given(stored, Case::new("block 2 mended", Call::Check, &mended), [2, 4, 1000]);

@@ -28,7 +28,7 @@ fn plan(stored: &mut Stored, name: impl Into<String>, table: &Table) {
         Ok((plan, _)) => Reply::given([plan.cores.into(), plan.cost, 0]),
         Err(refusal) => Reply::refused(refusal.number, refusal.at),
     };
-    assert_eq!(stored.add(whole(name.clone(), table, 0)), listed, "{name}");
+    assert_eq!(stored.add(whole(name.clone(), table)), listed, "{name}");
 }
 
 /// Modes that are all alike: the lowest permitted one.

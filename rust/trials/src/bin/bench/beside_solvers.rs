@@ -76,7 +76,7 @@ impl Times {
         let (mut cells, mut out) = (vec![0; table.cells()], vec![0; count]);
         let mut call = || {
             let start = Instant::now();
-            black_box(shunguleta::plan_whole(black_box(&bytes), &mut cells, 0, &mut out)).ok();
+            black_box(shunguleta::plan_whole(black_box(&bytes), &mut cells, &mut out)).ok();
             start.elapsed()
         };
         let program = program_of(&bytes, table.cores);
@@ -193,7 +193,7 @@ struct Other {
 fn other_selection(solver: Solver, folder: &Folder, table: &Table) -> Option<Other> {
     let bytes = table.bytes();
     let (mut cells, mut modes) = (vec![0; table.cells()], vec![0; table.tasks.len()]);
-    let plan = shunguleta::plan_whole(&bytes, &mut cells, 0, &mut modes).expect("a plan fits");
+    let plan = shunguleta::plan_whole(&bytes, &mut cells, &mut modes).expect("a plan fits");
     let plan = Selection { modes, cores: plan.cores as usize, cost: plan.cost };
     let (_, found) = solver.run(folder, &program_of(&bytes, table.cores), table.tasks.len());
     let found = selection(&bytes, found.expect("the solver finds a selection"));

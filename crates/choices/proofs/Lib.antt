@@ -1,0 +1,5 @@
+pub mod Sixteens
+pub mod Tables
+pub mod Loads
+pub mod Leasts
+pub mod Settled

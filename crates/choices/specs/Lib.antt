@@ -1,0 +1,6 @@
+-- "Rules for one mode", over a table.
+
+-- a table's tasks as the planner sees them
+pub mod Tasks
+-- nothing that has to be believed
+pub mod inner

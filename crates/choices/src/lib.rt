@@ -1,0 +1,102 @@
+// One task's choices, from its block into two plain arrays: the need and the cost of each mode. Above this no byte of a table is read.
+ghost use mathlib.Core.Path.{_≡_};
+ghost use Prim.Native.Nat.{_≤_};
+ghost use Rattle.block.specs.Layout.{modesIn};
+ghost use Rattle.table.specs.Numbers.{taskNumbersIn};
+ghost use Rattle.choices.specs.Tasks.{demandAt};
+ghost use Rattle.choices.specs.inner.Arrays.{needAt, sixteen, needsOf, costsOf, NeedsLeast, InLimits, AllMeet};
+use block::get8;
+use block::get16;
+use block::get32;
+use block::permits;
+use cells::lesser;
+use model::Need;
+use model::cores;
+use model::cost;
+use model::demand;
+
+// A need above every column: that of a mode that may not be chosen.
+const NEVER: u64 = 18446744073709551615;
+
+// The mode count of a task.
+pub fn modes(block: &[u8]) -> usize
+    ensures { λ r. ⌜ r ≡ modesIn (now (block .entry)) ⌝ }
+{
+    get8(block, 2) as usize
+}
+
+// The need of a mode.
+fn need_of(block: &[u8], j: u8) -> u64
+    ensures { λ r. ⌜ r ≡ needAt (taskNumbersIn (now (block .entry))) j ⌝ }
+{
+    if !permits(get16(block, 4), j) {
+        return NEVER;
+    }
+    let from = 12 * (j as u16);
+    let found = cores(
+        get32(block, 8 + from),
+        get32(block, 12 + from),
+        get32(block, 16 + from),
+    );
+    match found {
+        Need::Cores(k) => k as u64,
+        Need::Late => NEVER,
+    }
+}
+
+// The needs of a task's modes in turn.
+pub fn needs(block: &[u8]) -> [u64; 16]
+    requires { ⌜ modesIn (now block) ≤ 16 ⌝ }
+    ensures { λ r. ⌜ r ≡ sixteen (needsOf (taskNumbersIn (now (block .entry)))) ⌝ }
+{
+    let count = get8(block, 2);
+    let mut out = [0u64; 16];
+    let mut j: u8 = 0;
+    while j < count {
+        let need = need_of(block, j);
+        out[j as usize] = need;
+        j += 1;
+    }
+    out
+}
+
+// The least need of a mode that may be chosen.
+pub fn least_need(block: &[u8]) -> u64
+    requires { ⌜ AllMeet (taskNumbersIn (now block)) ⌝ }
+    ensures { λ r. ⌜ NeedsLeast (taskNumbersIn (now (block .entry))) r ⌝ }
+{
+    let count = get8(block, 2);
+    let mut least = NEVER;
+    let mut j: u8 = 0;
+    while j < count {
+        least = lesser(least, need_of(block, j));
+        j += 1;
+    }
+    least
+}
+
+// The demand of a mode.
+fn demand_of(block: &[u8], common: u32, j: u8) -> u64
+    ensures { λ r. ⌜ r ≡ demandAt common (taskNumbersIn (now (block .entry))) j ⌝ }
+{
+    let from = 12 * (j as u16);
+    demand(get32(block, 8 + from), get32(block, 16 + from), common)
+}
+
+// The costs of a task's modes in turn; mode 0 is the nominal mode, whether permitted or not.
+pub fn costs(block: &[u8], common: u32) -> [u64; 16]
+    requires { ⌜ InLimits common (taskNumbersIn (now block)) ⌝ }
+    ensures { λ r. ⌜ r ≡ sixteen (costsOf common (taskNumbersIn (now (block .entry)))) ⌝ }
+{
+    let elasticity = get8(block, 1);
+    let count = get8(block, 2);
+    let nominal = demand_of(block, common, 0);
+    let mut out = [0u64; 16];
+    let mut j: u8 = 0;
+    while j < count {
+        let price = cost(elasticity, nominal, demand_of(block, common, j));
+        out[j as usize] = price;
+        j += 1;
+    }
+    out
+}

@@ -1,4 +1,0 @@
-pub mod Sixteens
-pub mod Tables
-pub mod Choices
-pub mod Settled

@@ -1,0 +1,2 @@
+-- What the puts leave of a buffer: nothing here has to be believed.
+pub mod inner

@@ -1,0 +1,4 @@
+pub mod Filled
+pub mod Rests
+pub mod Wholes
+pub mod Settled
