@@ -1,55 +1,70 @@
-//! Links the proved planner's static library, and has it proved and built where it isn't there or is
-//! older than the planner.
+//! Links a copy of the proved planner's static library, and has the planner proved and built where
+//! the library isn't there or is older than the planner.
 
 use std::env;
 use std::fs;
+use std::io;
 use std::path::{Path, PathBuf};
-use std::process::{exit, Command};
+use std::process::{exit, Command, Stdio};
 use std::time::SystemTime;
 
-const LIBRARY: &str = "libcapi.a";
+const LIBRARY: &str = "libshunguleta.a";
+/// What rt is asked for; it writes the library to target/staticlib.
+const RT: [&str; 2] = ["staticlib", "shunguleta"];
 
 fn main() {
     println!("cargo:rerun-if-env-changed=SHUNGULETA_LIB");
     println!("cargo:rerun-if-changed=build.rs");
-    let folder = match env::var_os("SHUNGULETA_LIB") {
-        Some(folder) => named(PathBuf::from(folder)),
+    let library = match env::var_os("SHUNGULETA_LIB") {
+        Some(folder) => named(Path::new(&folder)),
         None => built(),
     };
-    println!("cargo:rerun-if-changed={}", folder.join(LIBRARY).display());
+    println!("cargo:rerun-if-changed={}", library.display());
+    let folder = variable("OUT_DIR");
+    let copy = folder.join(LIBRARY);
+    // What is linked is cargo's own, and stays as it is when rt builds the next one.
+    if let Err(error) = fs::read(&library).and_then(|bytes| fs::write(&copy, bytes)) {
+        fail(&format!("{} can't be copied to {}: {error}", library.display(), copy.display()));
+    }
     println!("cargo:rustc-link-search=native={}", folder.display());
-    println!("cargo:rustc-link-lib=static=capi");
+    println!("cargo:rustc-link-lib=static=shunguleta");
     // The test of the C side links the same library.
-    println!("cargo:rustc-env=SHUNGULETA_LIBRARY={}", folder.join(LIBRARY).display());
+    println!("cargo:rustc-env=SHUNGULETA_LIBRARY={}", copy.display());
 }
 
-/// The folder that SHUNGULETA_LIB names, which has to have the library already.
-fn named(folder: PathBuf) -> PathBuf {
-    if !folder.join(LIBRARY).is_file() {
+/// A folder that cargo names.
+fn variable(name: &str) -> PathBuf {
+    match env::var_os(name) {
+        Some(folder) => PathBuf::from(folder),
+        None => fail(&format!("cargo, which names {name}, has to run this")),
+    }
+}
+
+/// The library in the folder that SHUNGULETA_LIB names, where it has to be already.
+fn named(folder: &Path) -> PathBuf {
+    let library = folder.join(LIBRARY);
+    if !library.is_file() {
         fail(&format!("SHUNGULETA_LIB is {}, where there is no {LIBRARY}", folder.display()));
     }
-    // The linker runs in another folder than this program.
-    folder.canonicalize().unwrap_or(folder)
+    library
 }
 
-/// The folder that `rt staticlib capi` writes to.
+/// The library that rt writes.
 fn built() -> PathBuf {
-    let package = env::var_os("CARGO_MANIFEST_DIR").expect("cargo names the package's folder");
-    let root = Path::new(&package).join("../..");
-    let folder = root.join("target/staticlib");
+    let root = variable("CARGO_MANIFEST_DIR").join("../..");
     let crates = libraries(&root.join("crates"));
     for path in &crates {
         println!("cargo:rerun-if-changed={}", path.display());
     }
-    let library = folder.join(LIBRARY);
+    let library = root.join("target/staticlib").join(LIBRARY);
     let newest = crates.iter().filter_map(|path| changed(path)).max();
     if !library.is_file() || changed(&library) < newest {
         build(&root);
         if !library.is_file() {
-            fail(&format!("'rt staticlib capi' wrote no {}/{LIBRARY}", folder.display()));
+            fail(&format!("'rt {}' wrote no {}", RT.join(" "), library.display()));
         }
     }
-    folder
+    library
 }
 
 /// The crates that are libraries. The planner stands on no program, so it isn't older for new data
@@ -67,19 +82,31 @@ fn changed(path: &Path) -> Option<SystemTime> {
     }
 }
 
+/// Has rt prove and build the planner. What rt prints goes to this program's own errors: the other
+/// lines are for cargo.
 fn build(root: &Path) {
-    match Command::new("rt").args(["staticlib", "capi"]).current_dir(root).output() {
+    announce();
+    let mut rt = Command::new("rt");
+    rt.args(RT).current_dir(root).stdout(Stdio::from(io::stderr()));
+    match rt.status() {
         Err(error) => fail(&format!(
             "target/staticlib has no {LIBRARY} of this planner, and rt, which builds it, doesn't \
              run ({error}): install the Rattle kit, or set SHUNGULETA_LIB to the library's folder"
         )),
-        Ok(output) if !output.status.success() => {
-            let said = [output.stdout, output.stderr].concat();
-            let said = String::from_utf8_lossy(&said);
-            fail(&format!("'rt staticlib capi' failed ({}):\n{said}", output.status));
+        Ok(status) if !status.success() => {
+            fail(&format!("'rt {}' failed ({status})", RT.join(" ")))
         }
         Ok(_) => {}
     }
+}
+
+/// Says why this build takes so long. Cargo shows a warning when this program has ended, and its
+/// errors while it runs only under `-vv`, so it is said both ways.
+fn announce() {
+    let why = "rt proves the planner before it builds the library, which takes a few minutes; \
+               SHUNGULETA_LIB may name a folder with a library that is built already";
+    println!("cargo:warning={why}");
+    eprintln!("shunguleta: {why}");
 }
 
 fn fail(message: &str) -> ! {

@@ -3,9 +3,9 @@ use Prim.Native.Nat.{ℕ}
 use native.Mathlib.Omega.{arith}
 use mathlib.Core.Path.{_≡_, refl, sym, ap, _∙_}
 use mathlib.Core.List.{List, [], _∷_, _++_}
-use mathlib.Core.Bool.{true, false}
+use mathlib.Core.Bool.{true, false, cond}
 use lib.ListN.{drop}
-use Rattle.answer.specs.Said.{Said, refused, header, task, figures, needs, filled, plan, written}
+use Rattle.answer.specs.Said.{Said, refused, header, task, figures, choice, needs, filled, plan, written}
 use Rattle.answer.specs.Order.{Row, row, first, NoneGiven}
 use Rattle.answer.proofs.Bools.{clash}
 
@@ -43,6 +43,7 @@ kind (needs k) = 4
 kind (filled p) = 5
 kind (plan u v) = 6
 kind written = 7
+kind (choice p k v) = 8
 
 -- and its numbers
 abbrev pub numbers : Said → ℕ × ℕ × ℕ
@@ -54,6 +55,7 @@ numbers (needs k) = (k, 0, 0)
 numbers (filled p) = (p, 0, 0)
 numbers (plan u v) = (u, v, 0)
 numbers written = (0, 0, 0)
+numbers (choice p k v) = (cond p 1 0, k, v)
 
 -- a plan is no refusal
 pub plan-refused : {A : Type 0} {s : Said} {u v k at : ℕ} → s ≡ plan u v → s ≡ refused k at → A

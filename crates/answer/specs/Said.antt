@@ -1,5 +1,6 @@
 -- What an answer says, in the document's numbers and values.
 use Prim.Native.Nat.{ℕ}
+use mathlib.Core.Bool.{Bool}
 
 pub data Said : Type 0 where
   -- a refusal's number and the place that it names
@@ -10,6 +11,8 @@ pub data Said : Type 0 where
   task : ℕ → ℕ → ℕ → Said
   -- work, span and period
   figures : ℕ → ℕ → ℕ → Said
+  -- whether a mode is permitted, its cores and its cost
+  choice : Bool → ℕ → ℕ → Said
   -- the cores of one mode
   needs : ℕ → Said
   -- the new progress

@@ -76,7 +76,7 @@ value-all-zero (b ∷ l) e =
     let p = and-true (eqb b 0) (allZero l) e in
     omega (arith, eqb-true b 0 (p .0), value-all-zero l (p .1))
 
-drop-take : (at w : ℕ) (s : List ℕ) → drop at (take (at + w) s) ≡ take w (drop at s)
+pub drop-take : (at w : ℕ) (s : List ℕ) → drop at (take (at + w) s) ≡ take w (drop at s)
 drop-take zero w s = rw zero-add
 drop-take (suc at) w [] = rw (suc-add, take-nil)
 drop-take (suc at) w (b ∷ s) = rw suc-add (drop-take at w s)

@@ -1,7 +1,7 @@
 // Makes the planner's stored calls, through the interface for C and Rust, and prints a line for each. No rule of its own.
 //
 // The file `calls` is a run of records, every number least significant byte first. Kind 0 is the base of the tables that follow: its
-// length (16 bits) and its bytes. Kinds 1 to 8 are calls, and kind 9 asks for the cores of a mode, with this head:
+// length (16 bits) and its bytes. Kinds 1 to 9 are calls, with this head:
 //
 //   0, 1        kind; workspace: 0 fresh, 1 as the last call left it
 //   2, 4, 6     bytes of the table, cells, and bytes of the output that are lent (16 bits each)
@@ -17,18 +17,17 @@ ghost use lib.ListN.{length};
 use block::get8;
 use block::get16;
 use block::get32;
-use capi::Reply;
-use capi::shunguleta_ask_mode;
-use capi::shunguleta_ask_task;
-use capi::shunguleta_check;
-use capi::shunguleta_plan_whole;
-use capi::shunguleta_portion;
-use capi::shunguleta_take;
-use capi::shunguleta_write_header;
-use capi::shunguleta_write_task;
 use libc::STDOUT_FILENO;
-use model::Need;
-use model::cores;
+use shunguleta::Reply;
+use shunguleta::shunguleta_ask_choice;
+use shunguleta::shunguleta_ask_mode;
+use shunguleta::shunguleta_ask_task;
+use shunguleta::shunguleta_check;
+use shunguleta::shunguleta_plan_whole;
+use shunguleta::shunguleta_portion;
+use shunguleta::shunguleta_take;
+use shunguleta::shunguleta_write_header;
+use shunguleta::shunguleta_write_task;
 
 // The most that a call is lent: bytes of a table, cells, bytes of output, figures. And its head with the longest name.
 const TABLE: usize = 17408;
@@ -140,22 +139,6 @@ fn fetch_figures(fd: i32, count: u16, figures: &mut [u32; FIGURES]) -> bool {
     whole
 }
 
-// The cores of a mode, which no call answers alone, as a reply.
-fn cores_of(work: u32, span: u32, period: u32) -> Reply {
-    match cores(work, span, period) {
-        Need::Cores(count) => Reply {
-            number: 0,
-            at: 0,
-            values: [count as u64, 0, 0],
-        },
-        Need::Late => Reply {
-            number: 13,
-            at: 0,
-            values: [0, 0, 0],
-        },
-    }
-}
-
 // The call itself, by its kind, with the arguments of its head.
 fn call(head: &[u8], table: &[u8], cells: &mut [u64], figures: &[u32], out: &mut [u8]) -> Reply {
     let kind = get8(head, 0);
@@ -166,10 +149,11 @@ fn call(head: &[u8], table: &[u8], cells: &mut [u64], figures: &[u32], out: &mut
         1 => shunguleta_check(table),
         2 => shunguleta_ask_task(table, a),
         3 => shunguleta_ask_mode(table, a, b),
-        4 => shunguleta_portion(table, cells, a, b),
-        5 => shunguleta_take(table, cells, a, out),
-        6 => shunguleta_write_header(get16(head, 8), get16(head, 12), c, out),
-        7 => shunguleta_write_task(
+        4 => shunguleta_ask_choice(table, a, b),
+        5 => shunguleta_portion(table, cells, a, b),
+        6 => shunguleta_take(table, cells, a, out),
+        7 => shunguleta_write_header(get16(head, 8), get16(head, 12), c, out),
+        8 => shunguleta_write_task(
             a,
             get16(head, 12),
             get8(head, 20),
@@ -178,8 +162,7 @@ fn call(head: &[u8], table: &[u8], cells: &mut [u64], figures: &[u32], out: &mut
             figures,
             out,
         ),
-        8 => shunguleta_plan_whole(table, cells, out),
-        _ => cores_of(a, b, c),
+        _ => shunguleta_plan_whole(table, cells, out),
     }
 }
 
@@ -272,10 +255,10 @@ fn show_call(head: &[u8], table: &[u8], cells: &mut [u64], figures: &[u32], out:
     show_name(head);
     show_reply(call(head, table, cells, figures, out));
     // take, the writers and the whole plan may write to the output, a portion and the whole plan to the workspace
-    if (5 <= kind) & (kind <= 8) {
+    if (6 <= kind) & (kind <= 9) {
         show_out(out);
     }
-    if (kind == 4) | (kind == 8) {
+    if (kind == 5) | (kind == 9) {
         word(b" cells ");
         show_numbers(cells);
     }

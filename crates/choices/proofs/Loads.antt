@@ -5,7 +5,6 @@ use Prim.Native.Nat.{ℕ, zero, suc, _+_, _<_, min}
 use native.Mathlib.Omega.{arith}
 use borrow.Author.Tests.{lt-leb}
 use Rattle.answer.proofs.Bools.{clash}
-use Rattle.model.specs.Rules.{meets}
 use Rattle.model.specs.Turns.{eachFrom}
 use Rattle.model.specs.Plan.{Choice}
 use Rattle.model.specs.Cells.{mark, may, offered, least}
@@ -15,10 +14,11 @@ use Rattle.cells.specs.inner.Rows.{held, heldTask}
 use Rattle.table.specs.Numbers.{TaskNumbers}
 use Rattle.choices.specs.Tasks.{coresAt, costAt, choiceOf, taskOf}
 use Rattle.choices.specs.inner.Arrays.{needAt, needsOf, costsOf, AllMeet}
+use Rattle.choices.proofs.Meeting.{meetsAt}
 
 -- the mode meets its period
 abbrev pub Meets : TaskNumbers → ℕ → Type 0
-Meets t j = meets (t .figures j .work) (t .figures j .span) (t .figures j .period) ≡ true
+Meets t j = meetsAt t j ≡ true
 
 module _ (H : ℕ) (t : TaskNumbers) (j : ℕ) (meeting : Meets t j) (next : ℕ → ℕ) (c : ℕ) (low : c < mark) where
   abbrev asHeld : Choice

@@ -5,8 +5,8 @@ use mathlib.Core.Path.{_≡_, refl, sym, ap, _∙_}
 use mathlib.Core.Logic.{inl, inr}
 use mathlib.Core.List.{List, [], _∷_}
 use lib.ListN.{length}
-use Rattle.answer.specs.Said.{Said, refused, written, filled, plan}
-use Rattle.answer.specs.Order.{Row, Outcome, OneOf}
+use Rattle.answer.specs.Said.{Said, refused, choice, written, filled, plan}
+use Rattle.answer.specs.Order.{Row, first, Outcome, OneOf}
 use Rattle.answer.proofs.Rows.{kind, plan-refused}
 use Rattle.answer.proofs.Each.{Each, each-first}
 use Rattle.answer.proofs.Outcomes.{unchanged}
@@ -15,7 +15,7 @@ use Rattle.block.specs.Layout.{figuresIn}
 use Rattle.table.specs.Order.{headerBlock, taskBlock, headerSaid, taskSaid, figuresSaid, tableRows, askTaskRows, askModeRows}
 use Rattle.table.specs.Numbers.{numbersIn}
 use Rattle.table.proofs.Refusals.{frontNumbers, taskNumbers, each-table, each-ask-task, each-ask-mode}
-use Rattle.choices.specs.Tasks.{cellsOfTable}
+use Rattle.choices.specs.Tasks.{choiceOf, cellsOfTable}
 use Rattle.writer.proofs.Refusals as writer
 use Rattle.writer.proofs.Refusals.{each-header, each-task}
 use Rattle.portions.proofs.Refusals as portions
@@ -45,6 +45,13 @@ module _ (bytes : List ℕ) where
 
     own-with : (k : ℕ) → OneOf own k → With bytes own k 0
     own-with k one = inr (one, refl)
+
+-- ---- asking of a mode, whatever is said of it
+asking : (bytes : List ℕ) (i j : ℕ) (rest : Said) → (kind rest ≡ 0 → ⊥) → RefusedAs (With bytes (19 ∷ [])) (first (askModeRows bytes i j) rest)
+asking bytes i j rest other =
+    let own : List ℕ = 19 ∷ [] in
+    each-first (With bytes own) (askModeRows bytes i j) _ rest other
+    (each-ask-mode (With bytes own) bytes (front-with bytes own) (task-with bytes own) (own-with bytes own 19 tt) i j) refl
 
 -- ---- an outcome
 outcome : (P : ℕ → ℕ → Type 0) (A : List Row) (s rest : Said) (before after e : List ℕ) → (kind rest ≡ 0 → ⊥) → Each P A
@@ -95,10 +102,10 @@ demand-1 =
           let own : List ℕ = 19 ∷ [] in
           each-first (With bytes own) (askTaskRows bytes i) _ (taskSaid (taskBlock bytes i)) (λ z. omega (arith, z))
           (each-ask-task (With bytes own) bytes (front-with bytes own) (task-with bytes own) (own-with bytes own 19 tt) i) refl;
-      ask-mode = λ bytes i j.
-          let own : List ℕ = 19 ∷ [] in
-          each-first (With bytes own) (askModeRows bytes i j) _ (figuresSaid (figuresIn (taskBlock bytes i) j)) (λ z. omega (arith, z))
-          (each-ask-mode (With bytes own) bytes (front-with bytes own) (task-with bytes own) (own-with bytes own 19 tt) i j) refl;
+      ask-mode = λ bytes i j. asking bytes i j (figuresSaid (figuresIn (taskBlock bytes i) j)) (λ z. omega (arith, z));
+      ask-choice = λ bytes i j.
+          let c = choiceOf (numbersIn bytes .common) (numbersIn bytes .task i) j in
+          asking bytes i j (choice (c .permitted) (c .need) (c .cost)) (λ z. omega (arith, z));
       write-header = λ n m H before r after o.
           outcome _ _ _ written before _ after (λ z. omega (arith, z)) (each-header (AtFront writer.headerNumbers) (λ k one. (one, refl)) n m H (length before)) o;
       write-task = λ H number E modes permitted figures before r after o.

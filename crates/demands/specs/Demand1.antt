@@ -7,6 +7,7 @@ use Rattle.answer.specs.Said.{Said, refused}
 use Rattle.answer.specs.Order.{OneOf}
 use Rattle.table.specs.Order.{tableSaid, askTaskSaid, askModeSaid}
 use Rattle.table.specs.Numbers.{numbersIn}
+use Rattle.choices.specs.Said.{askChoiceSaid}
 use Rattle.writer.specs.declared.Written.{Written}
 use Rattle.writer.specs.Said as writer
 use Rattle.writer.specs.Order.{WroteHeader, WroteTask}
@@ -45,6 +46,7 @@ pub record Demand1 : Type 0 where
   pub check : (bytes : List ℕ) → RefusedAs (FromTable bytes) (tableSaid bytes)
   pub ask-task : (bytes : List ℕ) (i : ℕ) → RefusedAs (With bytes (19 ∷ [])) (askTaskSaid bytes i)
   pub ask-mode : (bytes : List ℕ) (i j : ℕ) → RefusedAs (With bytes (19 ∷ [])) (askModeSaid bytes i j)
+  pub ask-choice : (bytes : List ℕ) (i j : ℕ) → RefusedAs (With bytes (19 ∷ [])) (askChoiceSaid bytes i j)
   pub write-header : (n m H : ℕ) (before : List ℕ) (r : Written) (after : List ℕ) → WroteHeader n m H before r after
       → RefusedAs (AtFront (5 ∷ 15 ∷ [])) (writer.said r) × ChangesNothing (writer.said r) before after
   pub write-task : (H number E modes permitted : ℕ) (figures before : List ℕ) (r : Written) (after : List ℕ)

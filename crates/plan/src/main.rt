@@ -1,12 +1,11 @@
 // Reads a table from standard input and prints its plan, or the refusal. No rule of its own.
+use choices::Choosing;
+use choices::ask_choice;
 use libc::STDIN_FILENO;
 use libc::STDOUT_FILENO;
 use model::MOST_CELLS;
 use model::MOST_TASKS;
-use model::Need;
-use model::cores;
 use table::Reading;
-use table::ask_mode;
 use table::check;
 use taking::Taken;
 use whole::plan_whole;
@@ -43,13 +42,10 @@ fn show_cost(used: u32, available: u16, cost: u64) {
 
 // The cores of a mode; 0 of a mode that is not there, which no plan names.
 fn cores_of(table: &[u8], task: u32, mode: u32) -> u32 {
-    let Reading::Figures { work, span, period } = ask_mode(table, task, mode) else {
+    let Choosing::Choice { cores, .. } = ask_choice(table, task, mode) else {
         return 0;
     };
-    let Need::Cores(count) = cores(work, span, period) else {
-        return 0;
-    };
-    count
+    cores
 }
 
 // Each further line: task, mode, cores of that mode.

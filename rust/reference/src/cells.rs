@@ -1,6 +1,6 @@
 //! The workspace: what its cells hold, and filling them a portion at a time.
 
-use crate::table::{check, read_figures, read_task, task_block};
+use crate::table::{ask_mode, check, read_figures, read_task, task_block};
 use crate::{rules, Header, Refusal};
 
 /// A plan costs at most this much.
@@ -30,16 +30,52 @@ pub fn choices_of(table: &[u8]) -> Result<Vec<Vec<Choice>>, Refusal> {
 pub(crate) fn choices(table: &[u8], header: &Header, task: usize) -> Vec<Choice> {
     let block = task_block(table, task);
     let task = read_task(block);
-    let nominal = rules::demand(read_figures(block, 0), header.period);
+    let nominal = demand(block, header, 0);
     (0..task.modes)
         .filter(|&mode| rules::allows(task.permitted, mode))
         .filter_map(|mode| {
-            let figures = read_figures(block, mode);
-            let need = rules::cores(figures)? as usize;
-            let demand = rules::demand(figures, header.period);
-            Some(Choice { mode, need, cost: rules::cost(task.elasticity, nominal, demand) })
+            let Seen { cores, cost, .. } = seen(block, header, mode, nominal)?;
+            Some(Choice { mode, need: cores as usize, cost })
         })
         .collect()
+}
+
+/// A mode as the planner sees it, permitted or not.
+#[derive(Debug, Clone, Copy, PartialEq, Eq)]
+pub struct Seen {
+    /// Whether a plan may have the mode.
+    pub permitted: bool,
+    /// The cores that it needs.
+    pub cores: u32,
+    /// Its cost.
+    pub cost: u64,
+}
+
+/// Asks a table for one mode as the planner sees it.
+pub fn ask_choice(table: &[u8], task: u32, mode: u32) -> Result<Seen, Refusal> {
+    // That there is such a mode.
+    ask_mode(table, task, mode)?;
+    let header = check(table)?;
+    let task = task as usize;
+    let block = task_block(table, task);
+    let nominal = demand(block, &header, 0);
+    // No checked table lists a mode that can't meet its period.
+    seen(block, &header, mode as u8, nominal).ok_or(Refusal::at(13, task + 1))
+}
+
+/// A mode of a task's block whose mode 0 has the demand `nominal`; none where it can't meet its
+/// period.
+fn seen(block: &[u8], header: &Header, mode: u8, nominal: u64) -> Option<Seen> {
+    let task = read_task(block);
+    Some(Seen {
+        permitted: rules::allows(task.permitted, mode),
+        cores: rules::cores(read_figures(block, mode))?,
+        cost: rules::cost(task.elasticity, nominal, demand(block, header, mode)),
+    })
+}
+
+fn demand(block: &[u8], header: &Header, mode: u8) -> u64 {
+    rules::demand(read_figures(block, mode), header.common_period)
 }
 
 /// The number W of cells that a table needs.

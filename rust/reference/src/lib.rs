@@ -3,6 +3,8 @@
 //! It is written from that document alone and shares nothing with the proved planner, so that an
 //! answer on which the two agree has been worked out twice. Beside the plan by cells stands
 //! [`plan_by_listing`], the plan by its definition: over all selections, with no workspace in it.
+//!
+//! Behind the feature `same-loops` there is a copy with the proved planner's own loops, for times alone.
 #![forbid(unsafe_code)]
 #![warn(missing_docs)]
 
@@ -10,13 +12,16 @@ mod cells;
 mod listing;
 pub mod random;
 mod rules;
+#[cfg(feature = "same-loops")]
+pub mod same_loops;
 mod table;
 mod taking;
 #[cfg(test)]
 mod tests;
 mod writer;
 
-pub use cells::{choices_of, portion, workspace_length, Choice, COST_CEILING, MARK};
+pub use cells::{ask_choice, choices_of, portion, workspace_length, Choice, Seen};
+pub use cells::{COST_CEILING, MARK};
 pub use listing::plan_by_listing;
 pub use rules::cores;
 pub use table::{ask_mode, ask_task, block_check, check, BLOCK};
@@ -54,7 +59,7 @@ pub struct Header {
     /// How many cores there are, m.
     pub cores: u16,
     /// The common period H in ticks.
-    pub period: u32,
+    pub common_period: u32,
 }
 
 /// What a task's block says of the task itself.

@@ -4,7 +4,7 @@ use crate::Figures;
 
 const MOST_TASKS: u16 = 32;
 const MOST_CORES: u16 = 64;
-const MOST_PERIOD: u32 = 100_000;
+const MOST_COMMON_PERIOD: u32 = 100_000;
 const MOST_MODES: u8 = 16;
 const MOST_ELASTICITY: u8 = 10;
 /// A mode's work is at most this many of its periods.
@@ -16,12 +16,14 @@ pub(crate) fn is_task_number(number: u16) -> bool {
     number < MOST_TASKS
 }
 
-pub(crate) fn is_period(period: u32) -> bool {
-    (1..=MOST_PERIOD).contains(&period)
+pub(crate) fn is_common_period(common_period: u32) -> bool {
+    (1..=MOST_COMMON_PERIOD).contains(&common_period)
 }
 
-pub(crate) fn is_header(tasks: u16, cores: u16, period: u32) -> bool {
-    (1..=MOST_TASKS).contains(&tasks) && (1..=MOST_CORES).contains(&cores) && is_period(period)
+pub(crate) fn is_header(tasks: u16, cores: u16, common_period: u32) -> bool {
+    (1..=MOST_TASKS).contains(&tasks)
+        && (1..=MOST_CORES).contains(&cores)
+        && is_common_period(common_period)
 }
 
 pub(crate) fn is_task(elasticity: u8, modes: u8) -> bool {
@@ -37,10 +39,10 @@ pub(crate) fn allows(permitted: u16, mode: u8) -> bool {
     permitted >> mode & 1 == 1
 }
 
-/// The number under which a mode is refused in a table with the common period `common`.
-pub(crate) fn check_mode(figures: Figures, common: u32) -> Result<(), u8> {
+/// The number under which a mode is refused in a table with this common period.
+pub(crate) fn check_mode(figures: Figures, common_period: u32) -> Result<(), u8> {
     let Figures { work, span, period } = figures;
-    if period == 0 || !common.is_multiple_of(period) {
+    if period == 0 || !common_period.is_multiple_of(period) {
         return Err(11);
     }
     // The period divides the common one by now, so its multiple has room.
@@ -66,8 +68,8 @@ pub fn cores(figures: Figures) -> Option<u32> {
 }
 
 /// The work done in one common period.
-pub(crate) fn demand(figures: Figures, common: u32) -> u64 {
-    u64::from(figures.work) * u64::from(common / figures.period)
+pub(crate) fn demand(figures: Figures, common_period: u32) -> u64 {
+    u64::from(figures.work) * u64::from(common_period / figures.period)
 }
 
 /// The cost of a mode with this demand, where mode 0 has the demand `nominal`.

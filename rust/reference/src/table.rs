@@ -35,7 +35,8 @@ pub fn check(table: &[u8]) -> Result<Header, Refusal> {
         return Err(Refusal::new(7));
     }
     for (task, block) in rest.chunks_exact(BLOCK).enumerate() {
-        check_task(block, task, header.period).map_err(|number| Refusal::at(number, task + 1))?;
+        check_task(block, task, header.common_period)
+            .map_err(|number| Refusal::at(number, task + 1))?;
     }
     Ok(header)
 }
@@ -68,9 +69,12 @@ fn check_header(block: &[u8]) -> Result<Header, u8> {
     if block[1] != EDITION {
         return Err(4);
     }
-    let header =
-        Header { tasks: u16_at(block, 2), cores: u16_at(block, 4), period: u32_at(block, 8) };
-    if !rules::is_header(header.tasks, header.cores, header.period) {
+    let header = Header {
+        tasks: u16_at(block, 2),
+        cores: u16_at(block, 4),
+        common_period: u32_at(block, 8),
+    };
+    if !rules::is_header(header.tasks, header.cores, header.common_period) {
         return Err(5);
     }
     if !is_zero(&block[6..8]) || !is_zero(&block[12..CHECK]) {
@@ -79,7 +83,7 @@ fn check_header(block: &[u8]) -> Result<Header, u8> {
     Ok(header)
 }
 
-fn check_task(block: &[u8], number: usize, common: u32) -> Result<(), u8> {
+fn check_task(block: &[u8], number: usize, common_period: u32) -> Result<(), u8> {
     if u32_at(block, CHECK) != block_check(block) {
         return Err(2);
     }
@@ -99,7 +103,7 @@ fn check_task(block: &[u8], number: usize, common: u32) -> Result<(), u8> {
     if block[3] != 0 || !is_zero(&block[MODES + MODE * usize::from(task.modes)..CHECK]) {
         return Err(6);
     }
-    (0..task.modes).try_for_each(|mode| rules::check_mode(read_figures(block, mode), common))
+    (0..task.modes).try_for_each(|mode| rules::check_mode(read_figures(block, mode), common_period))
 }
 
 /// The block of a task that the table is known to have.

@@ -12,15 +12,16 @@ fn refusal<T>(number: u8, at: u32) -> Result<T, Refusal> {
     Err(Refusal { number, at })
 }
 
-fn table(period: u32, cores: u16, tasks: &[Listed]) -> Vec<u8> {
+fn table(common_period: u32, cores: u16, tasks: &[Listed]) -> Vec<u8> {
     let mut table = vec![0; BLOCK * (tasks.len() + 1)];
     let (header, blocks) = table.split_at_mut(BLOCK);
-    write_header(tasks.len() as u16, cores, period, header).unwrap();
+    write_header(tasks.len() as u16, cores, common_period, header).unwrap();
     for (number, (task, block)) in tasks.iter().zip(blocks.chunks_mut(BLOCK)).enumerate() {
         let (elasticity, permitted, modes) = task;
         let figures: Vec<u32> = modes.iter().flat_map(|&(c, l, t)| [c, l, t]).collect();
         let count = modes.len() as u8;
-        write_task(period, number as u16, *elasticity, count, *permitted, &figures, block).unwrap();
+        let number = number as u16;
+        write_task(common_period, number, *elasticity, count, *permitted, &figures, block).unwrap();
     }
     table
 }
@@ -69,9 +70,8 @@ fn lines(table: &[u8]) -> String {
             let header = check(table).unwrap();
             let mut lines = format!("plan {cores} of {} cost {cost}\n", header.cores);
             for (task, &mode) in modes.iter().enumerate() {
-                let figures = ask_mode(table, task as u32, mode.into()).unwrap();
-                let need = rules::cores(figures).unwrap();
-                lines += &format!("{task} {mode} {need}\n");
+                let Seen { cores, .. } = ask_choice(table, task as u32, mode.into()).unwrap();
+                lines += &format!("{task} {mode} {cores}\n");
             }
             lines
         }
@@ -104,16 +104,20 @@ fn largest_costs() {
 fn the_sample() {
     let table = sample(4);
     assert_eq!(table[508..512], 2147u32.to_le_bytes());
-    assert_eq!(check(&table), Ok(Header { tasks: 2, cores: 4, period: 1000 }));
+    assert_eq!(check(&table), Ok(Header { tasks: 2, cores: 4, common_period: 1000 }));
     assert_eq!(ask_task(&table, 1), Ok(Task { elasticity: 2, modes: 3, permitted: 7 }));
     assert_eq!(ask_mode(&table, 1, 2), Ok(Figures { work: 700, span: 100, period: 500 }));
-    let header = check(&table).unwrap();
-    let options = |task| {
-        let choices = cells::choices(&table, &header, task);
-        choices.iter().map(|choice| (choice.need, choice.cost)).collect::<Vec<_>>()
-    };
-    assert_eq!(options(0), [(2, 0), (1, 2_041_200_000)]);
-    assert_eq!(options(1), [(4, 0), (2, 2_469_600_000), (2, 2_469_600_000)]);
+    let choices = choices_of(&table).unwrap();
+    let first = [(2, 0), (1, 2_041_200_000)];
+    let second = [(4, 0), (2, 2_469_600_000), (2, 2_469_600_000)];
+    for (task, (expected, choices)) in [&first[..], &second].iter().zip(choices).enumerate() {
+        assert_eq!(expected.len(), choices.len());
+        for (mode, (&(cores, cost), choice)) in expected.iter().zip(choices).enumerate() {
+            let seen = Seen { permitted: true, cores, cost };
+            assert_eq!(ask_choice(&table, task as u32, mode as u32), Ok(seen));
+            assert_eq!(choice, Choice { mode: mode as u8, need: cores as usize, cost });
+        }
+    }
     assert_eq!(lines(&table), "plan 4 of 4 cost 2469600000\n0 0 2\n1 1 2\n");
 }
 
@@ -149,6 +153,8 @@ fn the_sample_with_other_cores() {
     assert_eq!(lines(&sample(6)), "plan 6 of 6 cost 0\n0 0 2\n1 0 4\n");
     let narrowed = altered(sample(4), BLOCK + 4, 0b10);
     assert_eq!(lines(&narrowed), "plan 3 of 4 cost 4510800000\n0 1 1\n1 1 2\n");
+    let shut = Seen { permitted: false, cores: 2, cost: 0 };
+    assert_eq!(ask_choice(&narrowed, 0, 0), Ok(shut));
 }
 
 #[test]
@@ -204,6 +210,9 @@ fn buffers_and_progress_refused() {
     assert_eq!(ask_task(&table, 2), refusal(19, 0));
     assert_eq!(ask_mode(&table, 0, 2), refusal(19, 0));
     assert_eq!(ask_mode(&table, 2, 0), refusal(19, 0));
+    assert_eq!(ask_choice(&table, 1, 3), refusal(19, 0));
+    assert_eq!(ask_choice(&table, 2, 0), refusal(19, 0));
+    assert_eq!(ask_choice(&table[..1024], 2, 0), refusal(7, 0));
     cells[14] = COST_CEILING + 1;
     assert_eq!(take(&table, &cells, 15, &mut out), refusal(14, 0));
     cells[14] = COST_CEILING;

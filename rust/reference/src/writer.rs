@@ -4,8 +4,13 @@ use crate::table::{block_check, BLOCK, CHECK, EDITION, HEADER_KIND, MODE, MODES,
 use crate::{rules, Figures, Refusal};
 
 /// Writes a header block over the first 512 bytes of `out`.
-pub fn write_header(tasks: u16, cores: u16, period: u32, out: &mut [u8]) -> Result<(), Refusal> {
-    if !rules::is_header(tasks, cores, period) {
+pub fn write_header(
+    tasks: u16,
+    cores: u16,
+    common_period: u32,
+    out: &mut [u8],
+) -> Result<(), Refusal> {
+    if !rules::is_header(tasks, cores, common_period) {
         return Err(Refusal::new(5));
     }
     let mut block = [0; BLOCK];
@@ -13,14 +18,14 @@ pub fn write_header(tasks: u16, cores: u16, period: u32, out: &mut [u8]) -> Resu
     block[1] = EDITION;
     block[2..4].copy_from_slice(&tasks.to_le_bytes());
     block[4..6].copy_from_slice(&cores.to_le_bytes());
-    block[8..12].copy_from_slice(&period.to_le_bytes());
+    block[8..12].copy_from_slice(&common_period.to_le_bytes());
     write(block, out)
 }
 
-/// Writes a task's block over the first 512 bytes of `out`. `period` is the common period of the
-/// table; `figures` has work, span and period of each mode in turn.
+/// Writes a task's block over the first 512 bytes of `out`. `common_period` is the table's;
+/// `figures` has work, span and period of each mode in turn.
 pub fn write_task(
-    period: u32,
+    common_period: u32,
     number: u16,
     elasticity: u8,
     modes: u8,
@@ -28,7 +33,7 @@ pub fn write_task(
     figures: &[u32],
     out: &mut [u8],
 ) -> Result<(), Refusal> {
-    if !rules::is_period(period) {
+    if !rules::is_common_period(common_period) {
         return Err(Refusal::new(5));
     }
     if !rules::is_task_number(number) {
@@ -48,7 +53,7 @@ pub fn write_task(
     block[6..8].copy_from_slice(&number.to_le_bytes());
     for (mode, bytes) in figures.chunks_exact(3).zip(block[MODES..].chunks_exact_mut(MODE)) {
         let figures = Figures { work: mode[0], span: mode[1], period: mode[2] };
-        rules::check_mode(figures, period).map_err(Refusal::new)?;
+        rules::check_mode(figures, common_period).map_err(Refusal::new)?;
         bytes[0..4].copy_from_slice(&figures.work.to_le_bytes());
         bytes[4..8].copy_from_slice(&figures.span.to_le_bytes());
         bytes[8..12].copy_from_slice(&figures.period.to_le_bytes());

@@ -38,6 +38,11 @@ static void ask_mode(void)
     reply = shunguleta_ask_mode(table, sizeof table, TASKS - 1, 15);
 }
 
+static void ask_choice(void)
+{
+    reply = shunguleta_ask_choice(table, sizeof table, TASKS - 1, 15);
+}
+
 static void portion(void)
 {
     reply = shunguleta_portion(table, sizeof table, cells, CELLS, 0, CELLS);
@@ -101,6 +106,7 @@ int main(void)
     refused |= show("check", check);
     refused |= show("ask_task", ask_task);
     refused |= show("ask_mode", ask_mode);
+    refused |= show("ask_choice", ask_choice);
     refused |= show("portion", portion);
     refused |= show("take", take);
     refused |= show("write_header", write_header);

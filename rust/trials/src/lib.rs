@@ -8,5 +8,6 @@ pub mod cases;
 pub mod guarded;
 pub mod stored;
 pub mod tables;
+pub mod ties;
 
 pub use reference::random::Random;

@@ -7,10 +7,7 @@
 use std::collections::BTreeSet;
 use std::fmt::{Display, Write};
 
-use reference::Figures;
-
 use crate::calls::{Call, Lent, Reply, Side};
-use crate::tables::Mode;
 
 /// The room for a table: one block more than the largest has.
 pub const TABLE_ROOM: usize = 17_408;
@@ -20,8 +17,6 @@ pub const CELL_ROOM: usize = 2200;
 pub const OUT_ROOM: usize = 600;
 const FIGURE_ROOM: usize = 60;
 const NAME_ROOM: usize = 96;
-/// The kind of a record that asks for the cores of a mode.
-const CORES: u8 = 9;
 /// What every cell of a fresh workspace holds.
 const FRESH_CELL: u64 = 77;
 /// What every byte of an output holds.
@@ -157,27 +152,6 @@ impl Stored {
         reply
     }
 
-    /// Adds the cores of a mode. They may be more than any table has, and no call answers them alone:
-    /// the program asks the rule itself.
-    ///
-    /// # Panics
-    ///
-    /// If the mode has been added before.
-    pub fn add_cores(&mut self, mode: Mode) -> Option<u32> {
-        let [work, span, period] = mode;
-        let name = format!("cores of ({work}, {span}, {period})");
-        self.cells.fill(FRESH_CELL);
-        let numbers = Numbers { arguments: mode, elasticity: 0, modes: 0 };
-        self.head([CORES, 0], [0; 3], &numbers, [0; 3], &name);
-        let cores = reference::cores(Figures { work, span, period });
-        self.lines += &match cores {
-            Some(cores) => format!("{name}: given {cores} 0 0\n"),
-            None => format!("{name}: refused 13 at 0\n"),
-        };
-        assert!(self.names.insert(name), "the mode {mode:?} has been added before");
-        cores
-    }
-
     /// Writes the call's record.
     fn keep(&mut self, case: &Case) {
         let patches = self.table_patches(&case.table);
@@ -236,14 +210,16 @@ impl Numbers {
         numbers.arguments = match *call {
             Call::Check => [0; 3],
             Call::AskTask { task } => [task, 0, 0],
-            Call::AskMode { task, mode } => [task, mode, 0],
+            Call::AskMode { task, mode } | Call::AskChoice { task, mode } => [task, mode, 0],
             Call::Portion { progress, budget } => [progress, budget, 0],
             Call::Take { progress } => [progress, 0, 0],
-            Call::WriteHeader { tasks, cores, period } => [tasks.into(), cores.into(), period],
-            Call::WriteTask { period, number, elasticity, modes, permitted } => {
+            Call::WriteHeader { tasks, cores, common_period } => {
+                [tasks.into(), cores.into(), common_period]
+            }
+            Call::WriteTask { common_period, number, elasticity, modes, permitted } => {
                 numbers.elasticity = elasticity;
                 numbers.modes = modes;
-                [period, number.into(), permitted.into()]
+                [common_period, number.into(), permitted.into()]
             }
             Call::PlanWhole => [0; 3],
         };
@@ -318,16 +294,20 @@ mod tests {
         let case = Case::new("next", call, &[7, 7, 9, 7]).cells(300).goes_on();
         stored.add(case.altering(256, 0x0102));
         let record = &stored.calls()[length..];
-        assert_eq!(record[..12], [4, 1, 4, 0, 44, 1, 0, 0, 4, 0, 0, 0]);
+        assert_eq!(record[..12], [5, 1, 4, 0, 44, 1, 0, 0, 4, 0, 0, 0]);
         assert_eq!(record[12..28], [3, 2, 0, 0, 0, 0, 0, 0, 0, 0, 1, 0, 1, 0, 0, 0]);
         assert_eq!(record[28..], *b"\x04\0\0\0next\x02\0\x09\0\x01\x02\x01\0\0\0\0\0\0");
         let length = stored.calls().len();
-        let call = Call::WriteTask { period: 6, number: 1, elasticity: 2, modes: 1, permitted: 1 };
+        let (common_period, number, elasticity, modes, permitted) = (6, 1, 2, 1, 1);
+        let call = Call::WriteTask { common_period, number, elasticity, modes, permitted };
         stored.add(Case::new("last", call, &[]).figures(&[9, 3, 6]).out(3));
         let record = &stored.calls()[length..];
-        assert_eq!(record[..12], [7, 0, 0, 0, 0, 0, 3, 0, 6, 0, 0, 0]);
+        assert_eq!(record[..12], [8, 0, 0, 0, 0, 0, 3, 0, 6, 0, 0, 0]);
         assert_eq!(record[12..28], [1, 0, 0, 0, 1, 0, 0, 0, 2, 1, 0, 0, 0, 0, 3, 0]);
         assert_eq!(record[28..], *b"\x04\0\0\0last\x09\0\0\0\x03\0\0\0\x06\0\0\0");
+        let length = stored.calls().len();
+        stored.add(Case::new("whole", Call::PlanWhole, &[]));
+        assert_eq!(stored.calls()[length], 9);
     }
 
     #[test]

@@ -56,14 +56,14 @@ impl Task {
 #[allow(missing_docs)]
 pub struct Table {
     pub cores: u16,
-    pub period: u32,
+    pub common_period: u32,
     pub tasks: Vec<Task>,
 }
 
 impl Table {
     /// A table of these tasks.
-    pub fn new(period: u32, cores: u16, tasks: &[Task]) -> Self {
-        Table { cores, period, tasks: tasks.to_vec() }
+    pub fn new(common_period: u32, cores: u16, tasks: &[Task]) -> Self {
+        Table { cores, common_period, tasks: tasks.to_vec() }
     }
 
     /// Document 01's sample, with any number of cores.
@@ -80,7 +80,7 @@ impl Table {
         header[..2].copy_from_slice(&[1, 1]);
         put16(&mut header, 2, self.tasks.len() as u16);
         put16(&mut header, 4, self.cores);
-        put32(&mut header, 8, self.period);
+        put32(&mut header, 8, self.common_period);
         let blocks = self.tasks.iter().enumerate().map(|(number, task)| task.block(number));
         let mut bytes: Vec<u8> = std::iter::once(header).chain(blocks).flatten().collect();
         mend(&mut bytes);
@@ -124,25 +124,25 @@ pub struct Sizes {
     pub tasks: u64,
     pub modes: u64,
     pub cores: u64,
-    /// The common period.
-    pub period: u32,
+    pub common_period: u32,
 }
 
 impl Sizes {
     /// The largest lawful table.
-    pub const LARGEST: Sizes = Sizes { tasks: 32, modes: 16, cores: 64, period: 100_000 };
+    pub const LARGEST: Sizes = Sizes { tasks: 32, modes: 16, cores: 64, common_period: 100_000 };
 }
 
-/// A lawful table with sizes from 1 to those given, and just the period.
+/// A lawful table with sizes from 1 to those given, and just the common period.
 pub fn random_table(random: &mut Random, sizes: Sizes) -> Table {
     let tasks = random.between(1, sizes.tasks);
     let cores = random.between(1, sizes.cores);
-    sized_table(random, tasks, (1, sizes.modes), cores, sizes.period)
+    sized_table(random, tasks, (1, sizes.modes), cores, sizes.common_period)
 }
 
 /// A lawful table of the sizes given, and none smaller.
 pub fn full_table(random: &mut Random, sizes: Sizes) -> Table {
-    sized_table(random, sizes.tasks, (sizes.modes, sizes.modes), sizes.cores, sizes.period)
+    let modes = (sizes.modes, sizes.modes);
+    sized_table(random, sizes.tasks, modes, sizes.cores, sizes.common_period)
 }
 
 /// A table to time, of just these sizes: all modes are permitted, and the last mode of each task
@@ -162,6 +162,7 @@ pub fn bench_table(sizes: Sizes, seed: u64) -> Table {
 /// them. There are cores for the better mode of one of two tasks, and which of them saves more turns
 /// on the last digits.
 pub fn near_tie(place: u64) -> Table {
+    // Every mode's period is the common one.
     const PERIOD: u32 = 100_000;
     // Mode 0 is as far from the others as can be, and needs more cores than any table has.
     let task = |later: u32| {
@@ -183,9 +184,9 @@ fn sized_table(
     tasks: u64,
     (fewest, most): (u64, u64),
     cores: u64,
-    period: u32,
+    common_period: u32,
 ) -> Table {
-    let periods = divisors(period);
+    let periods = divisors(common_period);
     // A task's share of the cores, so that tables with and without a plan are both common.
     let share = (2 * cores / tasks).max(2);
     let tasks = (0..tasks)
@@ -197,12 +198,12 @@ fn sized_table(
             Task { elasticity: random.between(1, 10) as u8, permitted: permitted as u16, modes }
         })
         .collect();
-    Table { cores: cores as u16, period, tasks }
+    Table { cores: cores as u16, common_period, tasks }
 }
 
 /// A lawful mode that mostly needs at most `need` cores.
 pub fn random_mode(random: &mut Random, periods: &[u32], need: u64) -> Mode {
-    // Long periods are the common ones.
+    // Long periods come up most.
     let place = random.below(periods.len() as u64).max(random.below(periods.len() as u64));
     let period = periods[place as usize];
     if period == 1 || random.once_in(8) {
@@ -218,10 +219,69 @@ pub fn random_mode(random: &mut Random, periods: &[u32], need: u64) -> Mode {
     [work as u32, span, period]
 }
 
-/// The divisors of a period, the least first.
-pub fn divisors(period: u32) -> Vec<u32> {
-    let low = (1..=period.isqrt()).filter(|&low| period.is_multiple_of(low));
-    let mut all: Vec<u32> = low.flat_map(|low| [low, period / low]).collect();
+/// The table with most modes repeating the demand of an earlier mode of their task, with another span
+/// and often another period: they cost the same, and many need other cores.
+pub fn with_ties(random: &mut Random, mut table: Table) -> Table {
+    let periods = divisors(table.common_period);
+    // Of so many tasks one is busy: with few of them, and with more cores, there are some to spare
+    // for wider modes.
+    let busy = random.one_of(&[1, 1, 2, 4]);
+    table.cores = (table.cores * random.one_of(&[1, 2])).min(64);
+    for task in &mut table.tasks {
+        let [.., period] = task.modes[0];
+        task.modes[0] = nominal(random, period, busy);
+        for mode in 1..task.modes.len() {
+            if !random.once_in(3) {
+                let earlier = task.modes[random.below(mode as u64) as usize];
+                task.modes[mode] = same_demand(random, earlier, &periods);
+            }
+        }
+    }
+    table
+}
+
+/// A lawful mode that once in `busy` times has more work than one core does in the period. With less
+/// than that, one core is enough whatever the span is.
+fn nominal(random: &mut Random, period: u32, busy: u64) -> Mode {
+    let least = if period > 1 && random.once_in(busy) { period } else { 0 };
+    let work = least + random.between(1, period.into()) as u32;
+    [work, any_span(random, work, period), period]
+}
+
+/// A lawful mode with the demand of a lawful one.
+fn same_demand(random: &mut Random, [work, _, period]: Mode, periods: &[u32]) -> Mode {
+    // As much of the work as of the period, if that is whole.
+    let in_period = |other: u32| {
+        let work = u64::from(work) * u64::from(other);
+        work.is_multiple_of(period.into()).then(|| (work / u64::from(period)) as u32)
+    };
+    let others = periods.iter().filter_map(|&other| Some((in_period(other)?, other)));
+    // Work above a period of 1 can't be done in it.
+    let others: Vec<_> = others.filter(|&(work, other)| work <= other || other > 1).collect();
+    let (work, period) = random.one_of(&others);
+    [work, any_span(random, work, period), period]
+}
+
+/// A span that is lawful with this work and period, mostly one for which few more cores are needed
+/// than for the shortest.
+fn any_span(random: &mut Random, work: u32, period: u32) -> u32 {
+    if work <= period {
+        return random.between(1, work.into()) as u32;
+    }
+    let (work, period) = (u64::from(work), u64::from(period));
+    if random.once_in(4) {
+        return random.between(1, period - 1) as u32;
+    }
+    let fewest = (work - 1).div_ceil(period - 1);
+    let cores = fewest + random.below(4);
+    // The longest span for which so many are enough.
+    ((cores * period - work) / (cores - 1)) as u32
+}
+
+/// The divisors of a number, the least first: of a common period, the periods that modes may have.
+pub fn divisors(number: u32) -> Vec<u32> {
+    let low = (1..=number.isqrt()).filter(|&low| number.is_multiple_of(low));
+    let mut all: Vec<u32> = low.flat_map(|low| [low, number / low]).collect();
     all.sort_unstable();
     all.dedup();
     all
@@ -236,12 +296,12 @@ mod tests {
         let mut bytes = vec![9; BLOCK * (table.tasks.len() + 1)];
         let (header, blocks) = bytes.split_at_mut(BLOCK);
         let count = table.tasks.len() as u16;
-        reference::write_header(count, table.cores, table.period, header).unwrap();
+        reference::write_header(count, table.cores, table.common_period, header).unwrap();
         for (number, (task, block)) in
             table.tasks.iter().zip(blocks.chunks_exact_mut(BLOCK)).enumerate()
         {
             reference::write_task(
-                table.period,
+                table.common_period,
                 number as u16,
                 task.elasticity,
                 task.count(),
@@ -258,14 +318,42 @@ mod tests {
     fn tables_are_laid_out_as_the_writers_do() {
         let mut random = Random::new(5);
         assert_eq!(Table::sample(4).bytes(), written(&Table::sample(4)));
-        for period in 1..500 {
-            let sizes = Sizes { period: period * 200, ..Sizes::LARGEST };
+        for part in 1..500 {
+            let sizes = Sizes { common_period: part * 200, ..Sizes::LARGEST };
             let table = random_table(&mut random, sizes);
             assert_eq!(table.bytes(), written(&table));
         }
         let table = full_table(&mut random, Sizes::LARGEST);
         assert_eq!(table.bytes(), written(&table));
         assert_eq!(table.cells(), 2145);
+    }
+
+    #[test]
+    fn tables_with_ties_are_lawful_and_have_them() {
+        let mut random = Random::new(9);
+        let [mut alike, mut other_cores] = [0; 2];
+        for _ in 0..40 {
+            let common_period = random.one_of(&[6, 1000, 83_160, 99_991]);
+            let table = full_table(&mut random, Sizes { common_period, ..Sizes::LARGEST });
+            let table = with_ties(&mut random, table).bytes();
+            for choices in reference::choices_of(&table).unwrap() {
+                for (place, later) in choices.iter().enumerate() {
+                    for earlier in choices[..place].iter().filter(|other| other.cost == later.cost)
+                    {
+                        alike += 1;
+                        other_cores += u32::from(earlier.need != later.need);
+                    }
+                }
+            }
+        }
+        assert!(alike > 30_000 && other_cores > 10_000, "{other_cores} of {alike}");
+    }
+
+    #[test]
+    fn a_table_of_period_1_has_no_other_modes() {
+        let mut random = Random::new(2);
+        let table = full_table(&mut random, Sizes { common_period: 1, ..Sizes::LARGEST });
+        assert_eq!(with_ties(&mut random, table.clone()).tasks, table.tasks);
     }
 
     #[test]
@@ -278,7 +366,7 @@ mod tests {
     }
 
     #[test]
-    fn divisors_of_a_period() {
+    fn divisors_of_a_number() {
         assert_eq!(divisors(1), [1]);
         assert_eq!(divisors(12), [1, 2, 3, 4, 6, 12]);
         assert_eq!(divisors(49), [1, 7, 49]);

@@ -1,38 +1,19 @@
 -- `choices::need_of` meets its contract. Assumes nothing.
 use Prim.Native.Nat.{ℕ}
-use mathlib.Core.Path.{_≡_, refl, sym, ap, _∙_}
-use mathlib.Core.List.{[], _∷_}
-use mathlib.Core.Bool.{Bool, true, false, cond, not}
+use mathlib.Core.Path.{_≡_, sym, ap, _∙_}
+use mathlib.Core.Bool.{true, false}
 use borrow.Author.Tests.{not-true, not-false}
 use borrow.Author.Needs.{needs}
 use Rattle.answer.specs.Said as told
-use Rattle.answer.specs.Order.{row, first}
 use Rattle.answer.proofs.Bools.{found}
-use Rattle.model.specs.Rules.{meets, coresSaid}
 use Rattle.model.specs.inner.Said.{said}
 use Rattle.model.specs.Cells.{mark}
 use Rattle.block.specs.Tests.{allows}
 use Rattle.table.specs.Numbers.{TaskNumbers, taskNumbersIn}
-use Rattle.choices.specs.Tasks.{coresAt}
 use Rattle.choices.specs.inner.Arrays.{needAt}
+use Rattle.choices.proofs.Meeting.{saidAt, said-cores, said-late}
 use Rattle.choices.proofs.need_of.Statement.{statement}
 use Rattle.choices.proofs.need_of.Tie as tie
-
--- the need that an answer of `cores` gives, where the mode meets its period or not
-need-met : (b : Bool) (k n : ℕ) → told.needs k ≡ first (row 13 0 (not b) ∷ []) (told.needs n) → k ≡ cond b n mark
-need-met true k n e = cc
-need-met false k n e = cc
-
-need-late : (b : Bool) (n : ℕ) → told.refused 13 0 ≡ first (row 13 0 (not b) ∷ []) (told.needs n) → mark ≡ cond b n mark
-need-late true n e = cc
-need-late false n e = refl
-
--- whether a mode meets its period, and what `cores` says of it
-abbrev meetsAt : TaskNumbers → ℕ → Bool
-meetsAt t j = meets (t .figures j .work) (t .figures j .span) (t .figures j .period)
-
-abbrev saidAt : TaskNumbers → ℕ → told.Said
-saidAt t j = coresSaid (t .figures j .work) (t .figures j .span) (t .figures j .period)
 
 module _ (t : TaskNumbers) (j : ℕ) where
   barred : allows (t .permitted) j ≡ false → mark ≡ needAt t j
@@ -40,10 +21,10 @@ module _ (t : TaskNumbers) (j : ℕ) where
 
   module _ (e : allows (t .permitted) j ≡ true) where
     allowed-met : (k : ℕ) → told.needs k ≡ saidAt t j → k ≡ needAt t j
-    allowed-met k s = rw e (need-met (meetsAt t j) k (coresAt t j) s)
+    allowed-met k s = rw e (said-cores t j k s)
 
     allowed-late : told.refused 13 0 ≡ saidAt t j → mark ≡ needAt t j
-    allowed-late s = rw e (need-late (meetsAt t j) (coresAt t j) s)
+    allowed-late s = rw (e, said-late t j s)
 
 -- the task and the mode asked of
 abbrev task : tie.After-permits → TaskNumbers

@@ -3,7 +3,8 @@
 //! `fuzz SEED COUNT` makes COUNT calls that the seed fixes. Each is made on both sides, and the
 //! answer and every byte and cell of every buffer are compared, with guards about what was lent. At
 //! the first difference the call is printed and the exit status is 1; so it is if one of the
-//! refusal numbers didn't come up.
+//! refusal numbers didn't come up, or if in 10,000 calls or more a tie rule decided less than one
+//! plan in 100.
 //!
 //! `fuzz SEED COUNT bare` lends buffers without guards, each an allocation of its own: for a run
 //! under a memory checker such as valgrind, which then sees a read beside a buffer too.
@@ -12,12 +13,15 @@ use std::env;
 use std::process::ExitCode;
 
 use reference::{plan_by_listing, BLOCK, COST_CEILING, MARK};
+use shunguleta::Figures;
 use trials::calls::{by_planner, by_reference, Call, Lent, Reply, Side};
 use trials::guarded::Guarded;
 use trials::stored::runs;
 use trials::tables::{
-    divisors, full_table, mend, put16, put32, random_mode, random_table, Sizes, Table, Task,
+    divisors, full_table, mend, put16, put32, random_mode, random_table, with_ties, Sizes, Table,
+    Task,
 };
+use trials::ties::Ties;
 use trials::Random;
 
 /// The refusal numbers are 1 to this.
@@ -28,6 +32,10 @@ const GUARDS: usize = 64;
 const MORE_CELLS: usize = 16;
 /// Selections that are listed for one plan at most.
 const MOST_LISTED: u64 = 1000;
+/// In so many calls or more, each tie rule has to decide one of so many plans. Both do so far more
+/// often; without tables made for ties, "fewest cores" would decide one in 1000.
+const CALLS_FOR_TIES: u64 = 10_000;
+const PLANS_FOR_TIES: u64 = 100;
 
 fn main() -> ExitCode {
     let Some((seed, count, guards)) = arguments() else {
@@ -45,6 +53,11 @@ fn main() -> ExitCode {
     let missing: Vec<usize> = (1..=REFUSALS).filter(|&number| fuzz.total(number) == 0).collect();
     if !missing.is_empty() {
         println!("refusals that didn't come up: {missing:?}");
+        return ExitCode::FAILURE;
+    }
+    let has_ties = fuzz.listed.has_ties() && fuzz.larger.has_ties();
+    if fuzz.made >= CALLS_FOR_TIES && !has_ties {
+        println!("a tie rule decided less than one plan in {PLANS_FOR_TIES}");
         return ExitCode::FAILURE;
     }
     ExitCode::SUCCESS
@@ -97,14 +110,46 @@ struct Scene {
     progress: u32,
 }
 
+/// Plans of undamaged tables, and how many of them each tie rule decided.
+#[derive(Default)]
+struct Plans {
+    all: u64,
+    fewest_cores: u64,
+    lowest_mode: u64,
+}
+
+impl Plans {
+    fn count(&mut self, ties: Ties) {
+        self.all += 1;
+        self.fewest_cores += u64::from(ties.fewest_cores);
+        self.lowest_mode += u64::from(ties.lowest_mode);
+    }
+
+    fn has_ties(&self) -> bool {
+        let fewer = self.fewest_cores.min(self.lowest_mode);
+        fewer > 0 && fewer * PLANS_FOR_TIES >= self.all
+    }
+
+    fn report(&self, of: &str) {
+        let Plans { all, fewest_cores, lowest_mode } = self;
+        println!(
+            "{all} plans of {of}; fewest cores decided {fewest_cores}, lowest mode number \
+             {lowest_mode}"
+        );
+    }
+}
+
 struct Fuzz {
     random: Random,
     guards: usize,
     wanted: u64,
     made: u64,
     /// By call, then by refusal number; 0 is no refusal.
-    counts: [[u64; REFUSALS + 1]; 8],
+    counts: [[u64; REFUSALS + 1]; Call::NAMES.len()],
     held_against_listing: u64,
+    /// Of tables whose selections are few enough to be listed.
+    listed: Plans,
+    larger: Plans,
 }
 
 impl Fuzz {
@@ -114,8 +159,10 @@ impl Fuzz {
             guards,
             wanted,
             made: 0,
-            counts: [[0; REFUSALS + 1]; 8],
+            counts: [[0; REFUSALS + 1]; Call::NAMES.len()],
             held_against_listing: 0,
+            listed: Plans::default(),
+            larger: Plans::default(),
         }
     }
 
@@ -136,6 +183,8 @@ impl Fuzz {
         }
         let listed = self.held_against_listing;
         println!("{} calls alike; {listed} plans are also those by listing", self.made);
+        self.listed.report("small tables");
+        self.larger.report("larger tables");
     }
 
     /// Several calls over one table and workspace, or several of the writers.
@@ -152,18 +201,25 @@ impl Fuzz {
         (0..calls).try_for_each(|_| self.over_table(&mut scene))
     }
 
-    /// A lawful table; small ones are the common ones.
+    /// A lawful table, mostly a small one and every other time one with many ties.
     fn table(&mut self) -> Table {
         let random = &mut self.random;
         let few = random.one_of(&[1, 2, 4, 6, 12]);
         let any = random.between(1, 100_000) as u32;
-        let many = random.one_of(&[1000, 5040, 27_720, 83_160, 100_000, any]);
-        match random.below(20) {
-            0..=5 => random_table(random, Sizes { tasks: 3, modes: 4, cores: 6, period: few }),
-            6..=10 => random_table(random, Sizes { tasks: 4, modes: 4, cores: 9, period: many }),
-            11..=15 => random_table(random, Sizes { tasks: 8, modes: 8, cores: 24, period: many }),
-            16..=18 => random_table(random, Sizes { period: many, ..Sizes::LARGEST }),
-            _ => full_table(random, Sizes { period: many, ..Sizes::LARGEST }),
+        let common_period = random.one_of(&[1000, 5040, 27_720, 83_160, 100_000, any]);
+        let table = match random.below(20) {
+            0..=5 => {
+                random_table(random, Sizes { tasks: 3, modes: 4, cores: 6, common_period: few })
+            }
+            6..=10 => random_table(random, Sizes { tasks: 4, modes: 4, cores: 9, common_period }),
+            11..=15 => random_table(random, Sizes { tasks: 8, modes: 8, cores: 24, common_period }),
+            16..=18 => random_table(random, Sizes { common_period, ..Sizes::LARGEST }),
+            _ => full_table(random, Sizes { common_period, ..Sizes::LARGEST }),
+        };
+        if random.once_in(2) {
+            with_ties(random, table)
+        } else {
+            table
         }
     }
 
@@ -185,10 +241,23 @@ impl Fuzz {
         scene.cells[..cells].copy_from_slice(after.cells.lent());
         match call {
             Call::Portion { .. } if reply.number == 0 => scene.progress = reply.values[0] as u32,
-            Call::PlanWhole if !damaged => self.listing(scene, reply, &after)?,
+            Call::PlanWhole if !damaged => {
+                self.ties(scene, reply);
+                self.listing(scene, reply, &after)?;
+            }
             _ => {}
         }
         Ok(())
+    }
+
+    /// Counts which of the tie rules decided a plan.
+    fn ties(&mut self, scene: &Scene, reply: Reply) {
+        if reply.number != 0 {
+            return;
+        }
+        let few = scene.listed.selections() <= MOST_LISTED;
+        let plans = if few { &mut self.listed } else { &mut self.larger };
+        plans.count(Ties::of(&scene.bytes).expect("the table has a plan"));
     }
 
     /// Holds a whole plan against the plan by listing all selections, if they are few.
@@ -223,8 +292,13 @@ impl Fuzz {
             self.task_told()
         };
         let before = self.lending(&[], &figures, &[], out);
-        self.compare(&call, &before)?;
-        Ok(())
+        let (reply, after) = self.compare(&call, &before)?;
+        match by_figures(&call, &figures, before.out.lent()) {
+            Some(by_figures) if by_figures != (reply, after.out.lent().to_vec()) => {
+                Err(format!("{call:?} by figures isn't {reply:?}, or the output differs"))
+            }
+            _ => Ok(()),
+        }
     }
 
     fn header_told(&mut self) -> Call {
@@ -232,20 +306,22 @@ impl Fuzz {
         let any = random.number();
         let tasks = random.one_of(&[0, 1, 2, 7, 31, 32, 33, 256, 257, any as u16]);
         let cores = random.one_of(&[0, 1, 2, 17, 63, 64, 65, 256, 257, (any >> 16) as u16]);
-        let period = random.one_of(&[0, 1, 12, 1000, 99_999, 100_000, 100_001, (any >> 32) as u32]);
+        let high = (any >> 32) as u32;
+        let common_period = random.one_of(&[0, 1, 12, 1000, 99_999, 100_000, 100_001, high]);
+        let lawful = 1 + common_period % 100_000;
         // Most of the limits are beyond; without these there would be few headers written.
         match random.below(3) {
-            0 => Call::WriteHeader { tasks, cores, period },
-            1 => Call::WriteHeader { tasks, cores: 1 + cores % 64, period: 1 + period % 100_000 },
-            _ => Call::WriteHeader { tasks: 1 + tasks % 32, cores: 64, period: 100_000 },
+            0 => Call::WriteHeader { tasks, cores, common_period },
+            1 => Call::WriteHeader { tasks, cores: 1 + cores % 64, common_period: lawful },
+            _ => Call::WriteHeader { tasks: 1 + tasks % 32, cores: 64, common_period: 100_000 },
         }
     }
 
     /// Lawful numbers of a task, mostly with something changed.
     fn task_told(&mut self) -> (Call, Vec<u32>) {
         let random = &mut self.random;
-        let mut period = random.one_of(&[1, 6, 12, 1000, 5040, 83_160, 99_999, 100_000]);
-        let periods = divisors(period);
+        let mut common_period = random.one_of(&[1, 6, 12, 1000, 5040, 83_160, 99_999, 100_000]);
+        let periods = divisors(common_period);
         let count = random.between(1, 16);
         let listed: Vec<_> = (0..count).map(|_| random_mode(random, &periods, 8)).collect();
         let task = Task::new(random.between(1, 10) as u8, &listed);
@@ -256,7 +332,7 @@ impl Fuzz {
         for _ in 0..random.one_of(&[0, 1, 1, 2, 3]) {
             let any = random.number();
             match random.below(9) {
-                0 => period = random.one_of(&[0, 1, 2000, 100_000, 100_001, any as u32]),
+                0 => common_period = random.one_of(&[0, 1, 2000, 100_000, 100_001, any as u32]),
                 1 => number = random.one_of(&[31, 32, 33, 256, any as u16]),
                 2 => elasticity = random.one_of(&[0, 10, 11, any as u8]),
                 3 => modes = random.one_of(&[0, 1, modes ^ 1, 16, 17, any as u8]),
@@ -271,7 +347,7 @@ impl Fuzz {
                 }
             }
         }
-        (Call::WriteTask { period, number, elasticity, modes, permitted }, figures)
+        (Call::WriteTask { common_period, number, elasticity, modes, permitted }, figures)
     }
 
     /// A length that is mostly just enough, else anything up to a bit more.
@@ -311,28 +387,38 @@ impl Fuzz {
 
     fn call(&mut self, scene: &Scene) -> Call {
         let all = scene.listed.cells() as u32;
-        match self.random.below(24) {
+        match self.random.below(26) {
             0..=1 => Call::Check,
             2..=4 => Call::AskTask { task: self.place(scene.listed.tasks.len()) },
-            5..=7 => {
-                let task = self.place(scene.listed.tasks.len());
-                let listed = scene.listed.tasks.get(task as usize);
-                let modes = listed.map_or(1, |task| task.modes.len());
-                Call::AskMode { task, mode: self.place(modes) }
+            5..=6 => {
+                let (task, mode) = self.mode_place(scene);
+                Call::AskMode { task, mode }
             }
-            8..=13 => {
+            7..=9 => {
+                let (task, mode) = self.mode_place(scene);
+                Call::AskChoice { task, mode }
+            }
+            10..=15 => {
                 let progress = match self.random.below(3) {
                     0 => self.number(all),
                     _ => scene.progress,
                 };
                 Call::Portion { progress, budget: self.number(all) }
             }
-            14..=19 => {
+            16..=21 => {
                 let progress = if self.random.once_in(4) { self.number(all) } else { all };
                 Call::Take { progress }
             }
             _ => Call::PlanWhole,
         }
+    }
+
+    /// The numbers of a task and a mode, mostly some that there are.
+    fn mode_place(&mut self, scene: &Scene) -> (u32, u32) {
+        let task = self.place(scene.listed.tasks.len());
+        let listed = scene.listed.tasks.get(task as usize);
+        let mode = self.place(listed.map_or(1, |task| task.modes.len()));
+        (task, mode)
     }
 
     /// The number of a task or a mode, mostly one that there is.
@@ -451,6 +537,25 @@ impl Fuzz {
             runs(reference.out.lent()),
         ))
     }
+}
+
+/// The task writer's answer and output where it is lent its figures mode by mode.
+fn by_figures(call: &Call, figures: &[u32], out: &[u8]) -> Option<(Reply, Vec<u8>)> {
+    let Call::WriteTask { common_period, number, elasticity, modes, permitted } = *call else {
+        return None;
+    };
+    if !figures.len().is_multiple_of(3) {
+        return None;
+    }
+    let figures = figures.chunks_exact(3).map(|mode| Figures::new(mode[0], mode[1], mode[2]));
+    let figures: Vec<Figures> = figures.collect();
+    let task = shunguleta::Task::new(elasticity, modes, permitted);
+    let mut out = out.to_vec();
+    let reply = match shunguleta::write_task(common_period, number, task, &figures, &mut out) {
+        Ok(()) => Reply::given([0; 3]),
+        Err(refusal) => Reply::refused(refusal.number, refusal.at),
+    };
+    Some((reply, out))
 }
 
 fn damage_header(random: &mut Random, block: &mut [u8]) {

@@ -39,8 +39,13 @@ pub(super) fn add(stored: &mut Stored) {
 fn cores(stored: &mut Stored) {
     for (mode, need) in CORES {
         let [work, span, period] = mode;
-        let found = stored.add_cores(mode);
-        assert_eq!(found.unwrap_or(0), need.into(), "the cores of {mode:?}");
+        let asked = Call::AskChoice { task: 0, mode: 0 };
+        let name = format!("cores of ({work}, {span}, {period})");
+        let case = Case::new(name, asked, &one_mode(period, 1, mode).bytes());
+        match need {
+            0 => refused(stored, case, 13, 1),
+            need => given(stored, case, [1, need.into(), 0]),
+        }
         let name = |cores| format!("cores of ({work}, {span}, {period}), m {cores}");
         let case = |cores| whole(name(cores), &one_mode(period, cores, mode));
         match need {
@@ -79,13 +84,17 @@ fn sample(stored: &mut Stored) {
             let call = Call::AskMode { task, mode };
             let name = format!("sample: task {task} mode {mode}");
             given(stored, Case::new(name, call, &table), figures.map(u64::from));
+            let [cores, cost] = SAMPLE[task as usize][mode as usize];
+            let call = Call::AskChoice { task, mode };
+            let name = format!("sample: task {task} mode {mode} as the planner sees it");
+            given(stored, Case::new(name, call, &table), [1, cores, cost]);
         }
     }
-    let call = Call::WriteHeader { tasks: 2, cores: 4, period: 1000 };
+    let call = Call::WriteHeader { tasks: 2, cores: 4, common_period: 1000 };
     given(stored, Case::new("sample: header written, check 2147", call, &[]).out(512), [0; 3]);
     for (number, task) in (0..).zip(&sample.tasks) {
         let call = Call::WriteTask {
-            period: 1000,
+            common_period: 1000,
             number,
             elasticity: task.elasticity,
             modes: task.count(),

@@ -56,6 +56,17 @@ fn mixed(stored: &mut Stored) {
     }
     let call = Call::AskMode { task: 31, mode: 16 };
     refused(stored, Case::new("largest: task 31 mode 16", call, &bytes), 19, 0);
+    for (task, mode) in [0, 31].into_iter().flat_map(|task| (0..16).map(move |mode| (task, mode))) {
+        let name = format!("largest: choice {mode} of task {task}");
+        let reply = stored.add(Case::new(name, Call::AskChoice { task, mode }, &bytes));
+        let permitted = table.tasks[task as usize].permitted >> mode & 1;
+        assert_eq!((reply.number, reply.values[0]), (0, permitted.into()));
+    }
+    for (task, mode) in [(31, 16), (32, 0)] {
+        let name = format!("largest: choice {mode} of task {task}");
+        let case = Case::new(name, Call::AskChoice { task, mode }, &bytes);
+        refused(stored, case, 19, 0);
+    }
     let case = Case::new("largest: task 32", Call::AskTask { task: 32 }, &bytes);
     refused(stored, case, 19, 0);
 

@@ -96,9 +96,9 @@ fn header(stored: &mut Stored) {
     for (cores, number) in [(0, 5), (1, 0), (64, 0), (65, 5), (260, 5)] {
         checked(stored, format!("m {cores}"), &Table::sample(cores).bytes(), number, 0);
     }
-    for (period, number) in [(0, 5), (1, 0), (100_000, 0), (100_001, 5), (1 << 24, 5), (ALL, 5)] {
-        let table = one_mode(period, 1, [1, 1, 1]).bytes();
-        checked(stored, format!("H {period}"), &table, number, 0);
+    for (common, number) in [(0, 5), (1, 0), (100_000, 0), (100_001, 5), (1 << 24, 5), (ALL, 5)] {
+        let table = one_mode(common, 1, [1, 1, 1]).bytes();
+        checked(stored, format!("H {common}"), &table, number, 0);
     }
 }
 

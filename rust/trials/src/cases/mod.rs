@@ -4,6 +4,7 @@
 //! against the side's own.
 
 mod altered;
+mod choices;
 mod document;
 mod largest;
 mod limits;
@@ -29,6 +30,7 @@ pub fn all(side: Side) -> Stored {
     portions::add(&mut stored);
     altered::add(&mut stored);
     ties::add(&mut stored);
+    choices::add(&mut stored);
     largest::add(&mut stored);
     stored
 }
@@ -76,8 +78,8 @@ fn changed(table: &Table, change: impl FnOnce(&mut [u8])) -> Vec<u8> {
 }
 
 /// A table of one task with one mode.
-fn one_mode(period: u32, cores: u16, mode: [u32; 3]) -> Table {
-    Table::new(period, cores, &[Task::new(1, &[mode])])
+fn one_mode(common_period: u32, cores: u16, mode: [u32; 3]) -> Table {
+    Table::new(common_period, cores, &[Task::new(1, &[mode])])
 }
 
 #[cfg(test)]

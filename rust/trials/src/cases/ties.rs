@@ -100,7 +100,7 @@ fn either_side_of_nominal(stored: &mut Stored) {
 fn few_figures(stored: &mut Stored) {
     let mut random = Random::new(12);
     for turn in 0..12 {
-        let sizes = Sizes { tasks: 5, modes: 4, cores: 12, period: 4 };
+        let sizes = Sizes { tasks: 5, modes: 4, cores: 12, common_period: 4 };
         let table = random_table(&mut random, sizes);
         plan(stored, format!("few figures, table {turn}"), &table);
     }

@@ -11,9 +11,9 @@ pub(super) fn add(stored: &mut Stored) {
     orders(stored);
 }
 
-fn header(stored: &mut Stored, [tasks, cores]: [u16; 2], period: u32, out: usize, number: u8) {
-    let name = format!("header of n {tasks}, m {cores}, H {period} to {out} bytes");
-    let call = Call::WriteHeader { tasks, cores, period };
+fn header(stored: &mut Stored, [tasks, cores]: [u16; 2], common: u32, out: usize, number: u8) {
+    let name = format!("header of n {tasks}, m {cores}, H {common} to {out} bytes");
+    let call = Call::WriteHeader { tasks, cores, common_period: common };
     settled(stored, Case::new(name, call, &[]).out(out), number, [0; 3]);
 }
 
@@ -24,8 +24,8 @@ fn headers(stored: &mut Stored) {
     for (cores, number) in [(0, 5), (1, 0), (64, 0), (65, 5), (260, 5)] {
         header(stored, [2, cores], 1000, 512, number);
     }
-    for (period, number) in [(0, 5), (1, 0), (100_000, 0), (100_001, 5)] {
-        header(stored, [2, 4], period, 512, number);
+    for (common_period, number) in [(0, 5), (1, 0), (100_000, 0), (100_001, 5)] {
+        header(stored, [2, 4], common_period, 512, number);
     }
     for (out, number) in [(0, 15), (511, 15), (513, 0)] {
         header(stored, [2, 4], 1000, out, number);
@@ -37,7 +37,7 @@ fn headers(stored: &mut Stored) {
 /// What the task writer is lent and told.
 #[derive(Clone)]
 struct Told {
-    period: u32,
+    common_period: u32,
     number: u16,
     elasticity: u8,
     modes: u8,
@@ -50,13 +50,13 @@ impl Told {
     /// Lawful numbers of a task of two modes.
     fn lawful() -> Self {
         let figures = vec![1800, 200, 1000, 900, 200, 1000];
-        let (period, number, elasticity, modes, permitted, out) = (1000, 1, 3, 2, 3, 512);
-        Told { period, number, elasticity, modes, permitted, figures, out }
+        let (common_period, number, elasticity, modes, permitted, out) = (1000, 1, 3, 2, 3, 512);
+        Told { common_period, number, elasticity, modes, permitted, figures, out }
     }
 
     fn case(&self, name: impl Into<String>) -> Case {
-        let Told { period, number, elasticity, modes, permitted, .. } = *self;
-        let call = Call::WriteTask { period, number, elasticity, modes, permitted };
+        let Told { common_period, number, elasticity, modes, permitted, .. } = *self;
+        let call = Call::WriteTask { common_period, number, elasticity, modes, permitted };
         Case::new(name, call, &[]).figures(&self.figures).out(self.out)
     }
 }
@@ -67,8 +67,8 @@ fn tasks(stored: &mut Stored) {
         change(&mut told);
         settled(stored, told.case(format!("task written: {name}")), number, [0; 3]);
     };
-    for (period, number) in [(0, 5), (100_001, 5), (100_000, 0), (500, 11)] {
-        told(format!("H {period}"), number, &|told| told.period = period);
+    for (common, number) in [(0, 5), (100_001, 5), (100_000, 0), (500, 11)] {
+        told(format!("H {common}"), number, &|told| told.common_period = common);
     }
     for (task, number) in [(0, 0), (31, 0), (32, 8), (256, 8)] {
         told(format!("number {task}"), number, &|told| told.number = task);
@@ -96,7 +96,7 @@ fn tasks(stored: &mut Stored) {
         told(format!("permitted {permitted}"), number, &|told| told.permitted = permitted);
     }
     told("16 modes, permitted 65535".into(), 0, &|told| {
-        told.period = 100_000;
+        told.common_period = 100_000;
         told.modes = 16;
         told.permitted = 65535;
         told.figures = (0..16).flat_map(|mode| [100_000 - mode, 99_999 - mode, 100_000]).collect();
@@ -129,7 +129,7 @@ fn tasks(stored: &mut Stored) {
 fn orders(stored: &mut Stored) {
     type Fault = (u8, &'static str, fn(&mut Told));
     let faults: [Fault; 10] = [
-        (5, "H", |told| told.period = 0),
+        (5, "H", |told| told.common_period = 0),
         (8, "number", |told| told.number = 32),
         (9, "E", |told| told.elasticity = 11),
         (9, "mode count", |told| told.modes = 17),

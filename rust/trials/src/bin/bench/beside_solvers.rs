@@ -109,7 +109,7 @@ fn times(solver: Solver, folder: &Folder) -> Kept {
     let mut others = Vec::new();
     for (sizes, seed) in TABLES {
         let [tasks, modes, cores] = sizes;
-        let table = bench_table(Sizes { tasks, modes, cores, period: 100_000 }, seed);
+        let table = bench_table(Sizes { tasks, modes, cores, common_period: 100_000 }, seed);
         let least = Times::of(solver, folder, &table);
         let times = ratio(least.solving(), least.call);
         if sizes == LARGEST {
@@ -213,7 +213,7 @@ fn selection(table: &[u8], modes: Vec<u8>) -> Selection {
 }
 
 fn listed(table: &Table) -> String {
-    let mut text = format!("    H {}, {} cores\n", table.period, table.cores);
+    let mut text = format!("    H {}, {} cores\n", table.common_period, table.cores);
     for (number, task) in table.tasks.iter().enumerate() {
         text += &format!(
             "    task {number}: E {}, modes {:?}, permitted {:#b}\n",

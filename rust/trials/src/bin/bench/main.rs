@@ -1,23 +1,34 @@
-//! Times the planner beside the reference and beside two solvers, in one run, and prints a report in
-//! Markdown. Exits 1 where a figure is not what docs/BENCHMARKS.md promises.
+//! Times the planner beside the reference and beside two solvers, counts the steps of its portions, and
+//! prints a report in Markdown, all in one run. Exits 1 where a figure is not what docs/BENCHMARKS.md
+//! promises.
 #![forbid(unsafe_code)]
 
 mod beside_reference;
 mod beside_solvers;
 mod programs;
+mod steps;
 mod timing;
 
-use std::fs;
 use std::process::{Command, ExitCode};
+use std::{env, fs};
+
+use steps::Portion;
 
 /// What each report answers: whether every figure was as promised.
 type Kept = bool;
 
 fn main() -> ExitCode {
+    // The report has this program itself run under callgrind.
+    let words: Vec<String> = env::args().skip(1).collect();
+    if let Some(portion) = Portion::named(&words) {
+        portion.make();
+        return ExitCode::SUCCESS;
+    }
     head();
     let near = beside_reference::report();
+    let bounded = steps::report();
     let far = beside_solvers::report();
-    if near && far {
+    if near && bounded && far {
         ExitCode::SUCCESS
     } else {
         ExitCode::FAILURE
@@ -37,9 +48,9 @@ fn head() {
         said_by("rustc", &["--version"])
     );
     println!();
-    println!("Every table that is timed is lawful, with all modes permitted and a common period of 100,000 ticks. A time is the least");
-    println!("of many, measured in turn with those of the other side, so that what slows the machine slows both. Buffers are not");
-    println!("cleared between runs.");
+    println!("Every table that is timed is lawful, with all modes permitted and a common period of 100,000 ticks. A least time is");
+    println!("the least of many, measured in turn with those of the other side, so that what slows the machine slows both. Buffers are");
+    println!("not cleared between runs.");
 }
 
 fn processors() -> String {

@@ -1,7 +1,7 @@
--- `capi::shunguleta_ask_mode` meets its contract. Assumes nothing.
+-- `shunguleta::shunguleta_ask_mode` meets its contract. Assumes nothing.
 use borrow.Author.Needs.{needs}
-use Rattle.capi.proofs.shunguleta_ask_mode.Statement.{statement}
-use Rattle.capi.proofs.shunguleta_ask_mode.Tie as tie
+use Rattle.shunguleta.proofs.shunguleta_ask_mode.Statement.{statement}
+use Rattle.shunguleta.proofs.shunguleta_ask_mode.Tie as tie
 
 ask-mode-requires : tie.Need-ask-mode-requires
 ask-mode-requires c κs = search needs

@@ -1,11 +1,11 @@
--- `capi::of_reading` meets its contract. Assumes nothing.
+-- `shunguleta::of_reading` meets its contract. Assumes nothing.
 use mathlib.Core.Path.{sym, ap, _∙_}
 use Rattle.table.specs.declared.Reading.{Reading}
 use Rattle.table.specs.Said.{said}
-use Rattle.capi.specs.Reply.{replyOf}
+use Rattle.shunguleta.specs.Reply.{replyOf}
 use borrow.Author.Needs.{needs}
-use Rattle.capi.proofs.of_reading.Statement.{statement}
-use Rattle.capi.proofs.of_reading.Tie as tie
+use Rattle.shunguleta.proofs.of_reading.Statement.{statement}
+use Rattle.shunguleta.proofs.of_reading.Tie as tie
 
 enum-known-got : tie.Need-enum-known-got
 enum-known-got c = search needs

@@ -1,8 +1,8 @@
--- `capi::of_refusal` meets its contract. Assumes nothing.
+-- `shunguleta::of_refusal` meets its contract. Assumes nothing.
 use mathlib.Core.Path.{refl}
 use borrow.Author.Needs.{needs}
-use Rattle.capi.proofs.of_refusal.Statement.{statement}
-use Rattle.capi.proofs.of_refusal.Tie as tie
+use Rattle.shunguleta.proofs.of_refusal.Statement.{statement}
+use Rattle.shunguleta.proofs.of_refusal.Tie as tie
 
 cast-t2 : tie.Need-cast-t2
 cast-t2 c = search needs

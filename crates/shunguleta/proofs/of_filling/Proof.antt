@@ -1,11 +1,11 @@
--- `capi::of_taken` meets its contract. Assumes nothing.
+-- `shunguleta::of_filling` meets its contract. Assumes nothing.
 use mathlib.Core.Path.{sym, ap, _∙_}
-use Rattle.taking.specs.declared.Taken.{Taken}
-use Rattle.taking.specs.Said.{said}
-use Rattle.capi.specs.Reply.{replyOf}
+use Rattle.portions.specs.declared.Filling.{Filling}
+use Rattle.portions.specs.Said.{said}
+use Rattle.shunguleta.specs.Reply.{replyOf}
 use borrow.Author.Needs.{needs}
-use Rattle.capi.proofs.of_taken.Statement.{statement}
-use Rattle.capi.proofs.of_taken.Tie as tie
+use Rattle.shunguleta.proofs.of_filling.Statement.{statement}
+use Rattle.shunguleta.proofs.of_filling.Tie as tie
 
 enum-known-got : tie.Need-enum-known-got
 enum-known-got c = search needs
@@ -23,13 +23,13 @@ of-values-requires : tie.Need-of-values-requires
 of-values-requires c κs = search needs
 
 returns : tie.Need-returns
-returns c = c .of-refusal .ensures ∙ ap (λ (g : Taken). replyOf (said g)) (sym (c .before .before .got .given .1))
+returns c = c .of-refusal .ensures ∙ ap (λ (g : Filling). replyOf (said g)) (sym (c .before .before .got .given .1))
 
 returns-2 : tie.Need-returns-2
-returns-2 c = c .of-values .ensures ∙ ap (λ (g : Taken). replyOf (said g)) (sym (c .before .before .got2 .given .1))
+returns-2 c = c .of-values .ensures ∙ ap (λ (g : Filling). replyOf (said g)) (sym (c .before .before .got2 .given .1))
 
-pub of-taken-spec : {M : Type 1} → statement M
-of-taken-spec =
+pub of-filling-spec : {M : Type 1} → statement M
+of-filling-spec =
     tie.close
     (tie.spec
     enum-known-got

@@ -1,9 +1,10 @@
 -- An answer as C and Rust have it.
 use Prim.Native.Nat.{ℕ}
 use mathlib.Core.Path.{_≡_}
+use mathlib.Core.Bool.{cond}
 use mathlib.Core.List.{[], _∷_}
-use Rattle.answer.specs.Said.{Said, refused, header, task, figures, needs, filled, plan, written}
-use Rattle.capi.specs.declared.Reply.{Reply}
+use Rattle.answer.specs.Said.{Said, refused, header, task, figures, choice, needs, filled, plan, written}
+use Rattle.shunguleta.specs.declared.Reply.{Reply}
 
 -- number 0: not refused, with the values in their order
 abbrev pub given : ℕ → ℕ → ℕ → Reply
@@ -15,6 +16,7 @@ replyOf (refused number at) = record { number = number; at = at; values = 0 ∷ 
 replyOf (header n m H) = given n m H
 replyOf (task E modes permitted) = given E modes permitted
 replyOf (figures C L T) = given C L T
+replyOf (choice permitted cores cost) = given (cond permitted 1 0) cores cost
 replyOf (needs cores) = given cores 0 0
 replyOf (filled p) = given p 0 0
 replyOf (plan cores cost) = given cores cost 0

@@ -1,11 +1,11 @@
--- `capi::of_written` meets its contract. Assumes nothing.
+-- `shunguleta::of_written` meets its contract. Assumes nothing.
 use mathlib.Core.Path.{sym, ap, _∙_}
 use Rattle.writer.specs.declared.Written.{Written}
 use Rattle.writer.specs.Said.{said}
-use Rattle.capi.specs.Reply.{replyOf}
+use Rattle.shunguleta.specs.Reply.{replyOf}
 use borrow.Author.Needs.{needs}
-use Rattle.capi.proofs.of_written.Statement.{statement}
-use Rattle.capi.proofs.of_written.Tie as tie
+use Rattle.shunguleta.proofs.of_written.Statement.{statement}
+use Rattle.shunguleta.proofs.of_written.Tie as tie
 
 enum-known-got : tie.Need-enum-known-got
 enum-known-got c = search needs

@@ -3,6 +3,7 @@ ghost use mathlib.Core.Path.{_≡_};
 ghost use Rattle.answer.specs.Said.{refused};
 ghost use Rattle.table.specs.Said.{said as readingSaid};
 ghost use Rattle.table.specs.Order.{tableSaid, askTaskSaid, askModeSaid};
+ghost use Rattle.choices.specs.Said.{said as choosingSaid, askChoiceSaid};
 ghost use Rattle.writer.specs.Said.{said as writtenSaid};
 ghost use Rattle.writer.specs.Order.{WroteHeader, WroteTask};
 ghost use Rattle.portions.specs.Said.{said as fillingSaid};
@@ -10,8 +11,9 @@ ghost use Rattle.portions.specs.Portion.{Portioned};
 ghost use Rattle.taking.specs.Said.{said as takenSaid};
 ghost use Rattle.taking.specs.Take.{TookPlan};
 ghost use Rattle.whole.specs.Whole.{PlannedWhole};
-ghost use Rattle.capi.specs.Reply.{given, replyOf, Replied};
+ghost use Rattle.shunguleta.specs.Reply.{given, replyOf, Replied};
 use answer::Refusal;
+use choices::Choosing;
 use portions::Filling;
 use table::Reading;
 use taking::Taken;
@@ -69,6 +71,19 @@ fn of_reading(got: Reading) -> Reply
     }
 }
 
+fn of_choosing(got: Choosing) -> Reply
+    ensures { λ r. ⌜ r ≡ replyOf (choosingSaid got) ⌝ }
+{
+    match got {
+        Choosing::Refused(refusal) => of_refusal(refusal),
+        Choosing::Choice {
+            permitted,
+            cores,
+            cost,
+        } => of_values(permitted as u64, cores as u64, cost),
+    }
+}
+
 fn of_filling(got: Filling) -> Reply
     ensures { λ r. ⌜ r ≡ replyOf (fillingSaid got) ⌝ }
 {
@@ -119,6 +134,13 @@ pub extern "C" fn shunguleta_ask_mode(table: &[u8], task: u32, mode: u32) -> Rep
 }
 
 #[no_mangle]
+pub extern "C" fn shunguleta_ask_choice(table: &[u8], task: u32, mode: u32) -> Reply
+    ensures { λ r. ⌜ Replied choosingSaid (λ answer. choosingSaid answer ≡ askChoiceSaid (now (table .entry)) task mode) r ⌝ }
+{
+    of_choosing(choices::ask_choice(table, task, mode))
+}
+
+#[no_mangle]
 pub extern "C" fn shunguleta_portion(
     table: &[u8],
     cells: &mut [u64],
@@ -146,17 +168,17 @@ pub extern "C" fn shunguleta_take(
 pub extern "C" fn shunguleta_write_header(
     tasks: u16,
     cores: u16,
-    period: u32,
+    common: u32,
     out: &mut [u8],
 ) -> Reply
-    ensures { λ r. ⌜ Replied writtenSaid (λ answer. WroteHeader tasks cores period (now (out .entry)) answer (now (out .exit))) r ⌝ }
+    ensures { λ r. ⌜ Replied writtenSaid (λ answer. WroteHeader tasks cores common (now (out .entry)) answer (now (out .exit))) r ⌝ }
 {
-    of_written(writer::write_header(tasks, cores, period, out))
+    of_written(writer::write_header(tasks, cores, common, out))
 }
 
 #[no_mangle]
 pub extern "C" fn shunguleta_write_task(
-    period: u32,
+    common: u32,
     number: u16,
     elasticity: u8,
     modes: u8,
@@ -164,9 +186,9 @@ pub extern "C" fn shunguleta_write_task(
     figures: &[u32],
     out: &mut [u8],
 ) -> Reply
-    ensures { λ r. ⌜ Replied writtenSaid (λ answer. WroteTask period number elasticity modes permitted (now (figures .entry)) (now (out .entry)) answer (now (out .exit))) r ⌝ }
+    ensures { λ r. ⌜ Replied writtenSaid (λ answer. WroteTask common number elasticity modes permitted (now (figures .entry)) (now (out .entry)) answer (now (out .exit))) r ⌝ }
 {
-    of_written(writer::write_task(period, number, elasticity, modes, permitted, figures, out))
+    of_written(writer::write_task(common, number, elasticity, modes, permitted, figures, out))
 }
 
 #[no_mangle]

@@ -1,7 +1,7 @@
--- `capi::shunguleta_portion` meets its contract. Assumes nothing.
+-- `shunguleta::shunguleta_portion` meets its contract. Assumes nothing.
 use borrow.Author.Needs.{needs}
-use Rattle.capi.proofs.shunguleta_portion.Statement.{statement}
-use Rattle.capi.proofs.shunguleta_portion.Tie as tie
+use Rattle.shunguleta.proofs.shunguleta_portion.Statement.{statement}
+use Rattle.shunguleta.proofs.shunguleta_portion.Tie as tie
 
 portion-requires : tie.Need-portion-requires
 portion-requires c κs = search needs
