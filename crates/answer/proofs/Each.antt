@@ -80,11 +80,6 @@ module _ (P : ℕ → ℕ → Type 0) where
     pub some-long : (o : Some) → (NoneGiven A → length after ≡ length before) → length (o .left) ≡ length before
     some-long o long = ⊎-elim (λ same. ap length same) (λ new. ap length (new .1) ∙ long (new .0)) (o .kept)
 
--- and of more numbers and places
-pub each-more : (P Q : ℕ → ℕ → Type 0) → ((k at : ℕ) → P k at → Q k at) → (A : List Row) → Each P A → Each Q A
-each-more P Q f [] a = tt
-each-more P Q f (row k at given ∷ A) a = (f k at (a .0), each-more P Q f A (a .1))
-
 -- numbers of a list that are all below another
 abbrev pub allBelow : ℕ → List ℕ → Bool
 allBelow b [] = true

@@ -1,6 +1,5 @@
 -- A mode that was asked for and not refused. Assumes nothing.
 use Prim.Native.Nat.{ℕ, _+_, _*_, _^_, _≤_, _<_}
-use native.Mathlib.Nat.{le-of-dvd, dvd-of-mod-eq-zero}
 use native.Mathlib.Omega.{arith}
 use mathlib.Core.Path.{_≡_, refl, sym, ap, _∙_}
 use mathlib.Core.Bool.{true}
@@ -20,9 +19,9 @@ use Rattle.table.specs.Order.{blockAt, taskBlock, tableRows, askTaskRows, askMo
 use Rattle.table.specs.Numbers.{TaskNumbers, taskNumbersIn, numbersIn}
 use Rattle.table.specs.Lawful.{LawfulFigures}
 use Rattle.table.specs.inner.Accepted.{LawfulWith}
+use Rattle.table.proofs.Limits.{period-short}
 use Rattle.table.proofs.Accepted.{lawful}
 use Rattle.choices.specs.Tasks.{coresAt, costAt}
-use Rattle.choices.specs.inner.Arrays.{InLimits}
 use Rattle.choices.proofs.Meeting.{meetsAt}
 use Rattle.choices.proofs.Tables.{cost-limit, block-limits}
 
@@ -73,12 +72,14 @@ module _ {bytes : List ℕ} {i j : ℕ} (a : Asked bytes i j) where
   cores-fit =
       let f = figures-lawful in
       let H = a .lawful .table .numbers .header in
-      let short : t .figures j .period ≤ numbersIn bytes .common = le-of-dvd (H .common-low) (dvd-of-mod-eq-zero (t .figures j .period) (f .divides)) in
-      omega (arith, cores-most (t .figures j .work) (t .figures j .span) (t .figures j .period), f .work-high, short, H .common-high)
-
-  pub block-within : (block : List ℕ) → block ≡ take 512 (drop (512 * (i + 1)) bytes) → InLimits (numbersIn bytes .common) (taskNumbersIn block)
-  block-within block is = block-limits (a .lawful) i (a .task) block is
+      omega (
+        arith,
+        cores-most (t .figures j .work) (t .figures j .span) (t .figures j .period),
+        f .work-high,
+        period-short (numbersIn bytes .common) (t .figures j) (H .common-low) f,
+        H .common-high,
+      )
 
   pub cost-fit : costAt (numbersIn bytes .common) t j < 2 ^ 64
   unfolding blockAt
-  cost-fit = omega (arith, cost-limit (numbersIn bytes .common) t j (block-within (taskBlock bytes i) refl) (a .mode))
+  cost-fit = omega (arith, cost-limit (numbersIn bytes .common) t j (block-limits (a .lawful) i (a .task) (taskBlock bytes i) refl) (a .mode))

@@ -5,8 +5,8 @@ use mathlib.Core.Logic.{_⊎_, inl, inr}
 use Prim.Native.Nat.{ℕ, zero, suc, _+_, _-_, _≤_, _<_}
 use native.Mathlib.Nat.{add-zero, zero-add, suc-add, sub-self, le-antisymm}
 use native.Mathlib.Omega.{arith}
-use lib.ListN.{length, getD, set, drop, length-set}
-use lib.Seq.{getD-set-other, drop-set-lt}
+use lib.ListN.{length, getD, set, length-set}
+use lib.Seq.{getD-set-other}
 use Rattle.model.specs.Workspace.{Rule, fill, advance, portion}
 use Rattle.model.specs.inner.Portions.{progressAfter, portions}
 
@@ -33,11 +33,6 @@ module _ (rule : Rule) where
       fill-outside (set ws p (rule ws p)) (suc p) k q d (inl (omega arith)) ∙ getD-set-other ws p q (rule ws p) d (omega arith)
   fill-outside ws p (suc k) q d (inr h) =
       fill-outside (set ws p (rule ws p)) (suc p) k q d (inr (omega arith)) ∙ getD-set-other ws p q (rule ws p) d (omega arith)
-
-  pub fill-drop : (ws : List ℕ) (p k n : ℕ) → p + k ≤ n → drop n (fill rule ws p k) ≡ drop n ws
-  unfolding fill
-  fill-drop ws p zero n h = refl
-  fill-drop ws p (suc k) n h = fill-drop (set ws p (rule ws p)) (suc p) k n (omega arith) ∙ drop-set-lt n ws p (rule ws p) (omega arith)
 
   -- ---- a loop that fills from `from` on: before its first turn, a turn that fills up to q, a turn that puts one cell, after its last
   pub fill-none : (ws : List ℕ) (p : ℕ) → ws ≡ fill rule ws p (p - p)

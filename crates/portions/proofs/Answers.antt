@@ -1,36 +1,21 @@
 -- `Filling` as an enum of answers: what is said of one is the whole of it. Assumes nothing.
-use Prim.Native.Nat.{ℕ, zero, suc, _^_, _<_}
+use Prim.Native.Nat.{ℕ, _^_, _<_}
 use mathlib.Core.Path.{_≡_, refl}
 use mathlib.Core.Bool.{cond}
 use mathlib.Core.List.{[], _∷_}
 use lib.Dec.{eqb}
 use denote.Laws.{Is}
-use denote.Enum.Declared.{tagOf, row}
+use denote.Enum.Declared.{row}
 use denote.Enum.Laws.{val}
 use Rattle.answer.specs.Said.{Said, refused, filled}
 use Rattle.answer.proofs.Rows.{kind, numbers}
-use Rattle.answer.proofs.Elses.{Tells, one-said}
+use Rattle.answer.proofs.Elses.{one-said}
 use Rattle.answer.proofs.Each.{Fits}
 use Rattle.portions.specs.declared.Filling.{Filling}
 use Rattle.portions.specs.declared.Filling.the-variants.{Refused, Filled}
 use Rattle.portions.specs.Said.{said}
 use Rattle.portions.proofs.Filling.{the-type}
 use Rattle.portions.proofs.Filling.Laws.{the-laws}
-
-abbrev pub tag : Filling → ℕ
-tag r = tagOf the-type r
-
--- the kind that a tag says
-abbrev pub says : ℕ → ℕ
-says zero = 0
-says (suc k) = 5
-
-pub told : (r : Filling) → kind (said r) ≡ says (tag r)
-told (Refused x) = refl
-told (Filled p) = refl
-
-abbrev pub filling : Tells Filling
-filling = record { said = said; tag = tag; says = says; told = told }
 
 -- the answer that says it, by its kind and its numbers
 abbrev unsaid : Said → Filling

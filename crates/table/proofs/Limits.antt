@@ -126,8 +126,11 @@ figures-pass at H f l =
     ) in
     (eleven, (twelve, (rw (l .meeting), tt)))
 
--- ---- lawful figures fit 32 bits
+-- ---- lawful figures fit 32 bits: no period is above the common one
+pub period-short : (H : ℕ) (f : Figures) → 1 ≤ H → LawfulFigures H f → f .period ≤ H
+period-short H f low l = le-of-dvd low (dvd-of-mod-eq-zero (f .period) (l .divides))
+
 pub figures-small : (H : ℕ) (f : Figures) → 1 ≤ H → H ≤ 100000 → LawfulFigures H f → Small f
 figures-small H f low high l =
-    let T : f .period ≤ H = le-of-dvd low (dvd-of-mod-eq-zero (f .period) (l .divides)) in
-    record { work = omega (arith, l .work-high); span = omega (arith, l .work-high, l .span-high); period = omega arith }
+    let T = period-short H f low l in
+    record { work = omega (arith, T, l .work-high); span = omega (arith, T, l .work-high, l .span-high); period = omega (arith, T) }

@@ -1,36 +1,21 @@
 -- `Taken` as an enum of answers: what is said of one is the whole of it. Assumes nothing.
-use Prim.Native.Nat.{ℕ, zero, suc, _^_, _<_}
+use Prim.Native.Nat.{ℕ, _^_, _<_}
 use mathlib.Core.Path.{_≡_, refl}
 use mathlib.Core.Bool.{cond}
 use mathlib.Core.List.{[], _∷_}
 use lib.Dec.{eqb}
 use denote.Laws.{Is}
-use denote.Enum.Declared.{tagOf, row}
+use denote.Enum.Declared.{row}
 use denote.Enum.Laws.{val}
 use Rattle.answer.specs.Said.{Said, refused, plan}
 use Rattle.answer.proofs.Rows.{kind, numbers}
-use Rattle.answer.proofs.Elses.{Tells, one-said}
+use Rattle.answer.proofs.Elses.{one-said}
 use Rattle.answer.proofs.Each.{Fits}
 use Rattle.taking.specs.declared.Taken.{Taken}
 use Rattle.taking.specs.declared.Taken.the-variants.{Refused, Plan}
 use Rattle.taking.specs.Said.{said, InType}
 use Rattle.taking.proofs.Taken.{the-type}
 use Rattle.taking.proofs.Taken.Laws.{the-laws}
-
-abbrev pub tag : Taken → ℕ
-tag r = tagOf the-type r
-
--- the kind that a tag says
-abbrev pub says : ℕ → ℕ
-says zero = 0
-says (suc k) = 6
-
-pub told : (r : Taken) → kind (said r) ≡ says (tag r)
-told (Refused x) = refl
-told (Plan u v) = refl
-
-abbrev pub taking : Tells Taken
-taking = record { said = said; tag = tag; says = says; told = told }
 
 -- the answer that says it, by its kind and its numbers
 abbrev unsaid : Said → Taken

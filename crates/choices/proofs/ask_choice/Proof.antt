@@ -17,7 +17,8 @@ use Rattle.table.specs.Said.{said}
 use Rattle.table.proofs.Readings.{reading, handed-on}
 use Rattle.choices.specs.Said.{askChoiceSaid}
 use Rattle.choices.proofs.Meeting.{saidAt, said-same, said-cores, said-late}
-use Rattle.choices.proofs.Asked.{common-read, choice-found, Asked, asked, modes-few, meets-period, block-within}
+use Rattle.choices.proofs.Tables.{block-limits}
+use Rattle.choices.proofs.Asked.{common-read, choice-found, Asked, asked, modes-few, meets-period}
 use borrow.Author.Needs.{needs}
 use Rattle.choices.proofs.ask_choice.Statement.{statement}
 use Rattle.choices.proofs.ask_choice.Tie as tie
@@ -115,7 +116,7 @@ unfolding blockAt
 choice-at-requires c κs =
     let a = given (c .before .before .before .before .before .before) in
     let b = c .before .task-block .ensures .bytes in
-    (rw (c .get32 .ensures, common-read) (block-within a _ b), rw b (a .mode))
+    (rw (c .get32 .ensures, common-read) (block-limits (a .lawful) _ (a .task) _ b), rw b (a .mode))
 
 returns-3 : tie.Need-returns-3
 returns-3 c =
