@@ -101,6 +101,8 @@ total (w ∷ ws) = w + total ws
 pub length_laid : (ws xs : List ℕ) → Fit ws xs → length (laid ws xs) ≡ total ws
 unfolding laid
 length_laid [] [] f = refl
+length_laid [] (x ∷ xs) f = elim f [ ]
+length_laid (w ∷ ws) [] f = elim f [ ]
 length_laid (w ∷ ws) (x ∷ xs) f = rw (length-append, length_bytes, length_laid ws xs f.1)
 
 -- whatever the numbers are, no more bytes than the widths have
@@ -119,6 +121,8 @@ fields (w ∷ ws) at s = number w at s ∷ fields ws (at + w) s
 pub back : (ws xs : List ℕ) → Fit ws xs → (p rest : List ℕ) (at : ℕ) → length p ≡ at → fields ws at (p ++ (laid ws xs ++ rest)) ≡ xs
 unfolding laid fields number
 back [] [] f p rest at e = refl
+back [] (x ∷ xs) f p rest at e = elim f [ ]
+back (w ∷ ws) [] f p rest at e = elim f [ ]
 back (w ∷ ws) (x ∷ xs) f p rest at e =
     let l : length (p ++ as_bytes w x) ≡ at + w = rw (length-append, length_bytes, e) in
     let first : take w (drop at (p ++ ((as_bytes w x ++ laid ws xs) ++ rest))) ≡ as_bytes w x =

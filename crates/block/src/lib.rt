@@ -1,5 +1,7 @@
 // One block: the numbers in its bytes, its check, its unused bytes, and the tests that reading and writing share. Nothing here
 // requires anything: a block is whatever slice is lent, and past its end 0 is read.
+#![tactic(auto)]
+
 ghost use Rattle.std.specs.Prelude.{◌≡◌, ◌-◌, min, length};
 ghost use Rattle.block.specs.Bytes.{number, check_of, zeros};
 ghost use Rattle.block.specs.Tests.{

@@ -12,6 +12,8 @@
 //
 // Then come the name, those bytes (offset in 16 bits, byte), those cells (number in 16 bits, value in 64) and the figures (32 bits each).
 // Every cell of a fresh workspace holds 77, and every byte of the output 170 before the call.
+#![tactic(auto)]
+
 ghost use Rattle.std.specs.Prelude.{◌<◌, ◌≤◌, length};
 
 use block::{get8, get16, get32};

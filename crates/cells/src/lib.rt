@@ -1,5 +1,7 @@
 // The workspace's rule over plain numbers: how a cell reads, how two costs add, the least over a task's modes, and a run of cells of one
 // row. A task is two runs of numbers here, the need and the cost of each mode. No byte of a table is known.
+#![tactic(auto)]
+
 ghost use Rattle.std.specs.Prelude.{◌≡◌, ◌+◌, ◌-◌, ◌≤◌, ◌<◌, min, length};
 ghost use Rattle.model.specs.Cells.{reads as reads_as, onward as onward_as, offered, least as least_as};
 ghost use Rattle.model.specs.Workspace.{fill};

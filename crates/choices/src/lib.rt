@@ -1,5 +1,7 @@
 // One task's choices, from its block: into two plain arrays, the need and the cost of each mode; and one of them as it is asked for. Above
 // this no byte of a table is read.
+#![tactic(auto)]
+
 ghost use Rattle.std.specs.Prelude.{◌≡◌, ◌≤◌, ◌<◌};
 ghost use Rattle.answer.specs.Said.{choice};
 ghost use Rattle.block.specs.Layout.{modes_in, permitted_in};

@@ -1,5 +1,5 @@
 -- The listing gives the plan, and gives none exactly where no selection fits. Assumes nothing.
-use mathlib.Core.Path.{◌≡◌, refl, ap, sym}
+use mathlib.Core.Path.{◌≡◌, refl, ap, sym, subst}
 use mathlib.Core.Logic.{◌⊎◌, inl, inr, ◌↔◌}
 use mathlib.Core.Bool.{Bool, true, false, cond, ◌&&◌, ◌||◌}
 use mathlib.Core.List.{List, [], ◌∷◌, ◌++◌, map}
@@ -64,6 +64,7 @@ In a [] = ⊥
 In a (b ∷ l) = (a ≡ b) ⊎ In a l
 
 in_front : {A : Type 0} (a : A) (l r : List A) → In a l → In a (l ++ r)
+in_front {A = A} a [] r x = elim x [ ]
 in_front a (b ∷ l) r (inl e) = inl e
 in_front a (b ∷ l) r (inr h) = inr (in_front a l r h)
 
@@ -81,11 +82,13 @@ in_append a (b ∷ l) r (inr h) = go (in_append a l r h)
     go (inr x) = inr x
 
 in_map : (j : ℕ) (s : List ℕ) (ss : List (List ℕ)) → In s ss → In (j ∷ s) (map (λ (r : List ℕ). j ∷ r) ss)
+in_map j s [] x = elim x [ ]
 in_map j s (r ∷ ss) (inl e) = inl (ap (λ (x : List ℕ). j ∷ x) e)
 in_map j s (r ∷ ss) (inr h) = inr (in_map j s ss h)
 
 in_each : (j : ℕ) (s : List ℕ) (js : List ℕ) (ss : List (List ℕ)) → In j js → In s ss → In (j ∷ s) (each js ss)
 unfolding each
+in_each j s [] ss x h = elim x [ ]
 in_each j s (k ∷ js) ss (inl e) h = in_front (j ∷ s) (map (λ (r : List ℕ). k ∷ r) ss) (each js ss) (rw e (in_map k s ss h))
 in_each j s (k ∷ js) ss (inr g) h = in_back (j ∷ s) (map (λ (r : List ℕ). k ∷ r) ss) (each js ss) (in_each j s js ss g h)
 
@@ -98,6 +101,7 @@ record Split (s : List ℕ) (js : List ℕ) (ss : List (List ℕ)) : Type 0 wher
   tail_in : In tail ss
 
 map_split : (k : ℕ) (s js : List ℕ) (ss : List (List ℕ)) → In s (map (λ (r : List ℕ). k ∷ r) ss) → Split s (k ∷ js) ss
+map_split k s js [] x = elim x [ ]
 map_split k s js (r ∷ ss) (inl e) = record { head = k; tail = r; is = e; head_in = inl refl; tail_in = inl refl }
 map_split k s js (r ∷ ss) (inr h) =
     let x = map_split k s js ss h in
@@ -126,8 +130,8 @@ in_numbers i (o ∷ os) zero h p = go o.permitted p
 in_numbers i (o ∷ os) (suc k) h p = go o.permitted (in_numbers (suc i) os k (le_of_suc-le-suc h) p)
   where
     go : (b : Bool) → In (suc i + k) (numbers (suc i) os) → In (i + suc k) (cond b (i ∷ numbers (suc i) os) (numbers (suc i) os))
-    go true q = let e : i + suc k ≡ suc i + k = omega arith in inr (rw e q)
-    go false q = let e : i + suc k ≡ suc i + k = omega arith in rw e q
+    go true q = let e : i + suc k ≡ suc i + k = omega arith in inr (subst (λ (x : ℕ). In x (numbers (suc i) os)) (sym e) q)
+    go false q = let e : i + suc k ≡ suc i + k = omega arith in subst (λ (x : ℕ). In x (numbers (suc i) os)) (sym e) q
 
 record Numbered (i : ℕ) (t : Task) (j : ℕ) : Type 0 where
   at : ℕ
@@ -159,6 +163,7 @@ listed (t ∷ ts) (j ∷ s) l = in_each j s (numbers 0 t) (selections ts) (rw ze
 selection_listed : (ts : List Task) (s : List ℕ) → In s (selections ts) → IsSelection ts s
 unfolding selections
 selection_listed [] s (inl e) = rw e tt
+selection_listed [] s (inr x) = elim x [ ]
 selection_listed (t ∷ ts) s h =
     let x = each_split s (numbers 0 t) (selections ts) h in
     let n = numbers_in_lem 0 t x.head x.head_in in

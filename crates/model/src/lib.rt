@@ -1,4 +1,6 @@
 // The rules for one mode: its cores, its demand and its cost; and the limits that sizes follow from.
+#![tactic(auto)]
+
 ghost use Rattle.std.specs.Prelude.{◌≡◌, ◌≤◌, ◌<◌};
 ghost use Rattle.model.specs.Rules.{rounded_up, meets, cores_said, demand_of, apart, cost_of};
 ghost use Rattle.model.specs.inner.Said.{said};

@@ -1,4 +1,6 @@
 // Reads a table from standard input and prints its plan, or the refusal. No rule of its own.
+#![tactic(auto)]
+
 use choices::{Choosing, ask_choice};
 use libc::{STDIN_FILENO, STDOUT_FILENO};
 use model::{MOST_CELLS, MOST_TASKS};

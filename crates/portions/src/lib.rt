@@ -1,4 +1,6 @@
 // Filling the lent workspace, a portion a call.
+#![tactic(auto)]
+
 ghost use Rattle.std.specs.Prelude.{◌≡◌, ◌+◌, ◌-◌, ◌%◌, ◌≤◌, ◌<◌, min, length};
 ghost use Rattle.answer.specs.Said.{refused};
 ghost use Rattle.model.specs.Limits.{most_cores};

@@ -52,6 +52,8 @@ overs (w ∷ ws) at (x ∷ xs) d = overs ws (at + w) xs (over d at (as_bytes w x
 pub overs_laid : (ws xs d : List ℕ) (at : ℕ) → Fit ws xs → at + total ws ≤ length d → overs ws at xs d ≡ over d at (laid ws xs)
 unfolding laid
 overs_laid [] [] d at f h = sym (over_none d at)
+overs_laid [] (x ∷ xs) d at f h = elim f [ ]
+overs_laid (w ∷ ws) [] d at f h = elim f [ ]
 overs_laid (w ∷ ws) (x ∷ xs) d at f h =
     let n : at + length (as_bytes w x) ≡ at + w = rw length_bytes in
     let l : length (over d at (as_bytes w x)) ≡ length d = length_over d at (as_bytes w x) (omega arith) in

@@ -1,4 +1,6 @@
 // Putting the numbers of a block into a lent buffer: its bytes, zero bytes and the check. No test is made here.
+#![tactic(auto)]
+
 ghost use Rattle.std.specs.Prelude.{◌≡◌, [], ◌∷◌, ◌++◌, ◌+◌, ◌-◌, ◌*◌, ◌≤◌, length, replicate, take, drop};
 ghost use Rattle.block.specs.Bytes.{as_bytes, laid};
 ghost use Rattle.block.specs.Whole.{sealed, header_bytes, task_bytes};

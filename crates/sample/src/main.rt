@@ -1,5 +1,7 @@
 // Writes the document's sample table to standard output, block by block through the writers; in place of a block that is refused, a
 // line with the refusal.
+#![tactic(auto)]
+
 use libc::STDOUT_FILENO;
 use writer::{Written, write_header, write_task};
 

@@ -1,4 +1,6 @@
 // The planner for C and Rust: each call with its slices as pointer and length, and its answer as a plain reply. No rule of its own.
+#![tactic(auto)]
+
 ghost use Rattle.std.specs.Prelude.{◌≡◌};
 ghost use Rattle.answer.specs.Said.{refused};
 ghost use Rattle.table.specs.Said.{said as reading_said};

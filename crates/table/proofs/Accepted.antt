@@ -2,7 +2,7 @@
 use Prim.Native.Nat.{ℕ, zero, suc, ◌+◌, ◌*◌, ◌≤◌, ◌<◌}
 use native.Mathlib.Nat.{eq-or-lt_of_le}
 use native.Mathlib.Omega.{arith}
-use mathlib.Core.Path.{◌≡◌, sym, ap, subst, ◌∙◌}
+use mathlib.Core.Path.{◌≡◌, sym, subst}
 use mathlib.Core.List.{List, [], ◌∷◌}
 use mathlib.Core.Logic.{⊎_elim, ◌↔◌}
 use lib.ListN.{length}
@@ -15,13 +15,9 @@ use Rattle.block.specs.Bytes.{Bytes}
 use Rattle.block.specs.Layout.{tasks_in, cores_in, common_in, modes_in, task_number_in, figures_in}
 use Rattle.block.specs.Tests.{figure_rows, modes_rows}
 use Rattle.block.proofs.Laid.{number_small}
-use Rattle.table.specs.declared.Reading.{Reading}
-use Rattle.table.specs.declared.Reading.TheVariants.{Header}
-use Rattle.table.specs.Said.{said}
 use Rattle.table.specs.Order.{header_block, task_block, header_rows, header_said, task_rows, whole_task_rows, other_length, front_rows, tasks_rows, table_rows, table_said}
 use Rattle.table.specs.Numbers.{task_numbers_in, numbers_in}
 use Rattle.table.specs.inner.Accepted.{LawfulTable, LawfulWith}
-use Rattle.table.proofs.Readings.{reading, tag}
 use Rattle.table.proofs.Blocks.{bytes_block}
 use Rattle.table.proofs.Limits.{is, header_lawful, task_lawful, figures_lawful}
 
@@ -95,22 +91,12 @@ module _ (bytes : List ℕ) where
   pub accepted_none : (table_said bytes ≡ header_said (header_block bytes)) ↔ NoneGiven (table_rows bytes)
   accepted_none = (answered_none, none_first (table_rows bytes) (header_said (header_block bytes)))
 
--- for a caller past its `let .. else` on `check`: the table is lawful, and the header's numbers are the table's
-accepted : (bytes : List ℕ) (r : Reading) → Bytes bytes → tag r ≡ 1 → said r ≡ table_said bytes
-    → LawfulTable bytes × (said r ≡ header_said (header_block bytes))
-accepted bytes r b t q =
-    let S = header_said (header_block bytes) in (
-      lawful bytes b (passed reading (1 ∷ []) r (table_rows bytes) S tt t q),
-      answered reading (1 ∷ []) r (table_rows bytes) S tt t q,
-    )
-
--- and by the numbers that its pattern bound
-pub accepted_with : (bytes : List ℕ) (r : Reading) (n m H : ℕ) → Bytes bytes → tag r ≡ 1 → said r ≡ table_said bytes → r ≡ Header n m H
-    → LawfulWith bytes n m H
-accepted_with bytes r n m H b t q e =
-    let a = accepted bytes r b t q in
-    let same : header n m H ≡ header_said (header_block bytes) = sym (ap said e) ∙ a.1 in
+-- for a caller past its `let .. else` on `check`: the table is lawful, and the numbers that its pattern bound are the table's
+pub accepted_with : (bytes : List ℕ) (n m H : ℕ) → Bytes bytes → header n m H ≡ table_said bytes → LawfulWith bytes n m H
+accepted_with bytes n m H b q =
+    let none = passed (table_rows bytes) (header_said (header_block bytes)) (λ z. omega (arith, z)) q in
+    let same : header n m H ≡ header_said (header_block bytes) = answered (table_rows bytes) (header_said (header_block bytes)) (λ z. omega (arith, z)) q in
     let tasks : (numbers_in bytes).tasks ≡ n = cc in
     let cores : (numbers_in bytes).cores ≡ m = cc in
     let common : (numbers_in bytes).common ≡ H = cc in
-    record { table = a.0; tasks = tasks; cores = cores; common = common }
+    record { table = lawful bytes b none; tasks = tasks; cores = cores; common = common }

@@ -2,18 +2,17 @@
 use Prim.Native.Nat.{ℕ, ◌<◌, ◌^◌}
 use native.Mathlib.Omega.{arith}
 use mathlib.Core.Path.{◌≡◌, refl, ap, ◌∙◌}
-use mathlib.Core.List.{List, [], ◌∷◌, map}
-use mathlib.Core.Bool.{cond, not}
-use lib.Dec.{T, eqb}
-use mir.Val.{has_key}
-use types.Run.{OneOf, miss}
+use mathlib.Core.List.{List, [], ◌∷◌}
+use mathlib.Core.Bool.{cond}
+use lib.Dec.{eqb}
 use denote.Laws.{Is}
-use denote.Enum.Declared.{tag_of, row}
+use denote.Enum.Declared.{row}
 use denote.Enum.Laws.{val}
 use Rattle.answer.specs.Said.{Said, refused}
 use Rattle.answer.specs.Order.{Row, first, Outcome}
-use Rattle.answer.proofs.Rows.{kind, numbers, kind_refused}
-use Rattle.answer.proofs.Elses.{Tells, one_said, stopped, kept}
+use Rattle.answer.proofs.Rows.{kind, numbers, kind_refused, stop}
+use Rattle.answer.proofs.Outcomes.{stops}
+use Rattle.answer.proofs.Elses.{one_said}
 use Rattle.table.specs.declared.Reading.{Reading}
 use Rattle.table.specs.declared.Reading.TheVariants.{Refused, Header, Task, Figures}
 use Rattle.table.specs.Said.{said}
@@ -21,17 +20,24 @@ use Rattle.table.specs.inner.Refusals.{refusal_of}
 use Rattle.table.specs.contracts.Reading.{the_type}
 use Rattle.table.proofs.Reading.TheLaws.{the_laws}
 
-abbrev pub tag : Reading → ℕ
-tag r = tag_of the_type r
+-- ---- a reading of another kind
+pub not_header : (r : Reading) → ((n m H : ℕ) → r ≡ Header n m H → ⊥) → kind (said r) ≡ 1 → ⊥
+not_header (Refused x) other e = absurd (omega (arith, e))
+not_header (Header n m H) other e = other n m H refl
+not_header (Task E k p) other e = absurd (omega (arith, e))
+not_header (Figures C L T) other e = absurd (omega (arith, e))
 
-pub told : (r : Reading) → kind (said r) ≡ tag r
-told (Refused x) = refl
-told (Header n m H) = refl
-told (Task E k p) = refl
-told (Figures C L T) = refl
+pub not_task : (r : Reading) → ((E k p : ℕ) → r ≡ Task E k p → ⊥) → kind (said r) ≡ 2 → ⊥
+not_task (Refused x) other e = absurd (omega (arith, e))
+not_task (Header n m H) other e = absurd (omega (arith, e))
+not_task (Task E k p) other e = other E k p refl
+not_task (Figures C L T) other e = absurd (omega (arith, e))
 
-abbrev pub reading : Tells Reading
-reading = record { said = said; tag = tag; says = λ k. k; told = told }
+pub not_figures : (r : Reading) → ((C L P : ℕ) → r ≡ Figures C L P → ⊥) → kind (said r) ≡ 3 → ⊥
+not_figures (Refused x) other e = absurd (omega (arith, e))
+not_figures (Header n m H) other e = absurd (omega (arith, e))
+not_figures (Task E k p) other e = absurd (omega (arith, e))
+not_figures (Figures C L T) other e = other C L T refl
 
 -- the answer that says it, by its kind and its numbers
 abbrev unsaid : Said → Reading
@@ -66,12 +72,6 @@ pub held_figures : (C L P : ℕ) → C < 2 ^ 32 → L < 2 ^ 32 → P < 2 ^ 32 �
 held_figures C L P x y z = (_, (refl, (_, (refl, ((refl, x), ((refl, y), ((refl, z), tt)))))))
 
 -- ---- a reading handed on
-pub no_refusal : (r : Reading) → OneOf (1 ∷ 2 ∷ 3 ∷ []) (tag r) → record { number = 0; at = 0 } ≡ refusal_of r
-no_refusal (Refused r) one = absurd (miss (1 ∷ 2 ∷ 3 ∷ []) 0 tt one)
-no_refusal (Header n m H) one = refl
-no_refusal (Task E modes permitted) one = refl
-no_refusal (Figures C L T) one = refl
-
 -- what its rows give whatever the rest is a refusal, and is given still
 pub handed_on : (A : List Row) (r : Reading) (s : Said) → ((t : Said) → said r ≡ first A t) → refused (refusal_of r).number (refusal_of r).at ≡ first A s
 handed_on A (Refused r) s h = h s
@@ -80,10 +80,7 @@ handed_on A (Task E modes permitted) s h = absurd (omega (arith, ap kind (h (ref
 handed_on A (Figures C L T) s h = absurd (omega (arith, ap kind (h (refused 0 0)) ∙ kind_refused A))
 
 -- in the `else` of a caller with another kind of answer: the refusal is handed on, and a lent buffer is as it was
-pub handed_else : (ks : List ℕ) (r : Reading) (A : List Row) (s t : Said) (before after : List ℕ) → T (not (has_key (map (λ k. k) ks) (kind s)))
-    → OneOf ks (tag r) → said r ≡ first A s → Outcome A t before after (refused (refusal_of r).number (refusal_of r).at) before
-handed_else ks r A s t before after out one q =
-    record {
-      says = handed_on A r t (λ u. stopped reading ks r A s u out one q);
-      leaves = (kept reading ks r A s t before after out one q).leaves;
-    }
+pub handed_else : (r : Reading) (A : List Row) (s t : Said) (before after : List ℕ) → (kind (said r) ≡ kind s → ⊥) → said r ≡ first A s
+    → Outcome A t before after (refused (refusal_of r).number (refusal_of r).at) before
+handed_else r A s t before after other q =
+    record { says = handed_on A r t (λ u. stop A s u other q); leaves = (stops A s t before after other q).leaves }

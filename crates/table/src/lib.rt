@@ -1,4 +1,6 @@
 // Reading a table: its checks in the document's order, and its numbers.
+#![tactic(auto)]
+
 ghost use Rattle.std.specs.Prelude.{◌≡◌, not, ◌+◌, ◌*◌, eqb};
 ghost use Rattle.answer.specs.Said.{refused, figures};
 ghost use Rattle.answer.specs.Order.{first};

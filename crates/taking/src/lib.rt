@@ -1,4 +1,6 @@
 // Takes the plan from a lent workspace.
+#![tactic(auto)]
+
 ghost use Rattle.std.specs.Prelude.{◌≡◌, ◌+◌, ◌*◌, ◌≤◌, ◌<◌, length, take as front};
 ghost use Rattle.answer.specs.Said.{refused};
 ghost use Rattle.answer.specs.Order.{first};

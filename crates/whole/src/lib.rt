@@ -1,4 +1,6 @@
 // The planner in one call, with one check of the table. Its promise is the plan itself.
+#![tactic(auto)]
+
 ghost use Rattle.std.specs.Prelude.{◌≡◌, leb};
 ghost use Rattle.model.specs.inner.Fitting.{least_cores};
 ghost use Rattle.table.specs.Numbers.{numbers_in};

@@ -1,4 +1,6 @@
 // Writing the blocks of a table: the tests in the document's order, then the 512 bytes. Nothing is written before the last test.
+#![tactic(auto)]
+
 ghost use Rattle.std.specs.Prelude.{◌≡◌, not, ◌||◌, ◌*◌, eqb};
 ghost use Rattle.answer.specs.Said.{refused, written};
 ghost use Rattle.answer.specs.Order.{first};
