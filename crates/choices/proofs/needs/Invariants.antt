@@ -1,0 +1,13 @@
+-- The invariant: the needs of the modes passed are written.
+use Prim.Native.Nat.{◌-◌, ◌≤◌}
+use mathlib.Core.Path.{◌≡◌}
+use Rattle.model.specs.Turns.{each_from}
+use Rattle.table.specs.Numbers.{task_numbers_in}
+use Rattle.choices.specs.inner.Arrays.{need_at, sixteen}
+use Rattle.choices.proofs.needs.Given as goal
+
+abbrev pub invariant-loop-j : goal.invariant-loop-j
+invariant-loop-j l = (l.j ≤ l.count) × (l.out ≡ sixteen (each_from (need_at (task_numbers_in l.block)) 0 l.j))
+
+abbrev pub decreases-loop-j : goal.decreases-loop-j
+decreases-loop-j l = l.count - l.j
