@@ -114,8 +114,8 @@ pub fn fill_run(
     from: usize,
     to: usize,
 )
-    requires need_len { (length need.now ≡ length cost.now) × NoneDearer cost.now }
-    requires start_le_from { (start ≤ from) × (from ≤ to) × (to ≤ length cells.old) × (to ≤ start + widest) × (next + (to - start) ≤ start) }
+    requires prices { (length need.now ≡ length cost.now) × NoneDearer cost.now }
+    requires places { (start ≤ from) × (from ≤ to) × (to ≤ length cells.old) × (to ≤ start + widest) × (next + (to - start) ≤ start) }
     ensures { cells.new ≡ fill (task_row (held_task need.now cost.now) next start) cells.old from (to - from) }
 {
     let row = hold_row(&*cells, next, to - start);

@@ -64,8 +64,8 @@ fn task_run(
     from: usize,
     to: usize,
 )
-    requires in_limits { InLimits common (task_numbers_in block.now) × AllMeet (task_numbers_in block.now) }
-    requires start_le_from { (start ≤ from) × (from ≤ to) × (to ≤ length cells.old) × (to ≤ start + widest) × (next + (to - start) ≤ start) }
+    requires limits { InLimits common (task_numbers_in block.now) × AllMeet (task_numbers_in block.now) }
+    requires places { (start ≤ from) × (from ≤ to) × (to ≤ length cells.old) × (to ≤ start + widest) × (next + (to - start) ≤ start) }
     ensures { cells.new ≡ fill (task_row (task_of common (task_numbers_in block.now)) next start) cells.old from (to - from) }
 {
     let count = modes(block);
@@ -84,8 +84,8 @@ fn task_run(
 
 // Fills cells of one row.
 fn row_run(table: &[u8], common: u32, cells: &mut [u64], n: usize, m: usize, from: usize, to: usize)
-    requires lawful_with { LawfulWith table.now n m common }
-    requires from_bound { (from < cell_count n m) × (from ≤ to) × (to ≤ from + (m + 1 - from % (m + 1))) × (to ≤ length cells.old) }
+    requires lawful { LawfulWith table.now n m common }
+    requires places { (from < cell_count n m) × (from ≤ to) × (to ≤ from + (m + 1 - from % (m + 1))) × (to ≤ length cells.old) }
     ensures { cells.new ≡ fill (rule_of table.now) cells.old from (to - from) }
 {
     let width = m + 1;
@@ -109,8 +109,8 @@ pub fn fill_rows(
     from: usize,
     to: usize,
 )
-    requires lawful_with { LawfulWith table.now n m common }
-    requires from_le_to { (from ≤ to) × (to ≤ cell_count n m) × (to ≤ length cells.old) }
+    requires lawful { LawfulWith table.now n m common }
+    requires places { (from ≤ to) × (to ≤ cell_count n m) × (to ≤ length cells.old) }
     ensures { cells.new ≡ fill (rule_of table.now) cells.old from (to - from) }
 {
     let mut p = from;

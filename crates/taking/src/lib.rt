@@ -73,8 +73,8 @@ struct Traced {
 // From column `used` of row 0, each task in turn gets the lowest permitted mode that keeps the cell's cost. A task's choices are loaded
 // once.
 fn trace(table: &[u8], common: u32, n: usize, m: usize, cells: &[u64], used: usize) -> Traced
-    requires lawful_with { LawfulWith table.now n m common }
-    requires used_le_m { (used ≤ m) × (cell_count n m ≤ length cells.now) }
+    requires lawful { LawfulWith table.now n m common }
+    requires room { (used ≤ m) × (cell_count n m ≤ length cells.now) }
     ensures { TracedFrom table.now cells.now n used result }
 {
     let mut modes = [0u8; MOST_TASKS];
@@ -131,8 +131,8 @@ pub fn take_from(
     cells: &[u64],
     out: &mut [u8],
 ) -> Taken
-    requires lawful_with { LawfulWith table.now n m common }
-    requires m_in_bounds { (cell_count n m ≤ length cells.now) × (n ≤ length out.old) }
+    requires lawful { LawfulWith table.now n m common }
+    requires room { (cell_count n m ≤ length cells.now) × (n ≤ length out.old) }
     ensures { TookFrom table.now cells.now out.old result out.new }
 {
     let start = n * (m + 1);
