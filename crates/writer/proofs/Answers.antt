@@ -1,17 +1,17 @@
 -- `Written` as an enum of answers: what is said of one is the whole of it, and one answer after another. Assumes nothing.
-use Prim.Native.Nat.{ℕ, zero, suc}
+use Prim.Native.Nat.{ℕ}
 use native.Mathlib.Omega.{arith}
 use mathlib.Core.Path.{◌≡◌, refl, sym, ◌∙◌}
 use mathlib.Core.List.{List, [], ◌∷◌, ◌++◌}
 use mathlib.Core.Bool.{cond}
 use lib.Dec.{eqb}
 use denote.Laws.{Is}
-use denote.Enum.Declared.{tag_of, row}
+use denote.Enum.Declared.{row}
 use denote.Enum.Laws.{val}
 use Rattle.answer.specs.Said.{Said, refused, written}
 use Rattle.answer.specs.Order.{Row, first}
 use Rattle.answer.proofs.Rows.{kind, numbers, stop, first_none, none_first, first_append}
-use Rattle.answer.proofs.Elses.{Tells, one_said}
+use Rattle.answer.proofs.Elses.{one_said}
 use Rattle.answer.proofs.Each.{Fits}
 use Rattle.writer.specs.declared.Written.{Written}
 use Rattle.writer.specs.declared.Written.TheVariants.{Refused, Done}
@@ -20,20 +20,10 @@ use Rattle.writer.specs.inner.Turns.{in_turn}
 use Rattle.writer.specs.contracts.Written.{the_type}
 use Rattle.writer.proofs.Written.TheLaws.{the_laws}
 
-abbrev pub tag : Written → ℕ
-tag r = tag_of the_type r
-
--- the kind that a tag says
-abbrev pub says : ℕ → ℕ
-says zero = 0
-says (suc k) = 7
-
-pub told : (r : Written) → kind (said r) ≡ says (tag r)
-told (Refused x) = refl
-told Done = refl
-
-abbrev pub writing : Tells Written
-writing = record { said = said; tag = tag; says = says; told = told }
+-- ---- an answer that isn't that the block is written
+pub not_done : (r : Written) → (r ≡ Done → ⊥) → kind (said r) ≡ 7 → ⊥
+not_done (Refused x) other e = absurd (omega (arith, e))
+not_done Done other e = other refl
 
 -- the answer that says it, by its kind and its numbers
 abbrev unsaid : Said → Written
