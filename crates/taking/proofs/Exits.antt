@@ -6,11 +6,11 @@ use mathlib.Core.Bool.{true, false, not}
 use mathlib.Core.List.{List, [], ◌∷◌, ◌++◌}
 use mathlib.Core.Logic.{◌≢◌}
 use borrow.Author.Tests.{lt-ltb, le-ltb, eq-eqb, ne_eqb}
-use types.Run.{OneOf}
 use lib.Dec.{ltb, eqb}
 use lib.ListN.{length, take}
 use Rattle.answer.specs.Said.{Said, refused, plan}
 use Rattle.answer.specs.Order.{Row, row, first, afterwards, Outcome}
+use Rattle.answer.proofs.Rows.{kind}
 use Rattle.answer.proofs.Outcomes.{goes, joined, behind, given}
 use Rattle.model.specs.Cells.{mark}
 use Rattle.model.specs.Taking.{used, trace, all_keep, take_rows, take_modes}
@@ -21,7 +21,7 @@ use Rattle.table.specs.inner.Refusals.{refusal_of}
 use Rattle.table.specs.Order.{header_block, header_said}
 use Rattle.table.specs.Numbers.{numbers_in}
 use Rattle.table.specs.inner.Accepted.{LawfulWith}
-use Rattle.table.proofs.Readings.{tag, handed_else}
+use Rattle.table.proofs.Readings.{handed_else}
 use Rattle.choices.specs.Tasks.{tasks_of_table, cores_of_table, cells_of_table}
 use Rattle.choices.proofs.Tables.{count_is}
 use Rattle.taking.specs.declared.Traced.{Traced}
@@ -62,13 +62,12 @@ module _ (bytes cells : List ℕ) (p : ℕ) (before : List ℕ) where
   From s e = Outcome Own Rest before After s e
 
   -- the table or what is lent is refused, and so is taking, for the same reason
-  pub turned_away : {s : Said} (r : Reading) → OneOf (0 ∷ 2 ∷ 3 ∷ []) (tag r) → Says bytes (length cells) (length before) (said_of r)
+  pub turned_away : {s : Said} (r : Reading) → (kind (said_of r) ≡ 1 → ⊥) → Says bytes (length cells) (length before) (said_of r)
       → s ≡ refused (refusal_of r).number (refusal_of r).at → Ends s before
   unfolding taking_rows
-  turned_away {s} r one q e =
+  turned_away {s} r other q e =
       let further = Progress ++ Own in
-      let o = handed_else (0 ∷ 2 ∷ 3 ∷ []) r Room (header_said (header_block bytes)) (first further Rest) before
-      (afterwards further before After) tt one q in
+      let o = handed_else r Room (header_said (header_block bytes)) (first further Rest) before (afterwards further before After) other q in
       joined Room further Rest before After (record { says = e ∙ o.says; leaves = o.leaves })
 
   module _ {n m H : ℕ} (l : Lent bytes (length cells) (length before) n m H) where

@@ -1,22 +1,18 @@
 -- The tests of the table and of what is lent: what each way out says, and what holds past them. Assumes nothing.
 use Prim.Native.Nat.{ℕ, ◌≤◌, ◌<◌}
+use native.Mathlib.Omega.{arith}
 use mathlib.Core.Path.{◌≡◌, sym, ◌∙◌}
 use mathlib.Core.List.{List, [], ◌∷◌}
 use borrow.Author.Tests.{lt-ltb, le-ltb, ltb-false}
-use types.Run.{OneOf}
 use lib.Dec.{ltb}
-use Rattle.answer.specs.Said.{Said, refused}
+use Rattle.answer.specs.Said.{Said, refused, header}
 use Rattle.answer.specs.Order.{Row, row, first, NoneGiven}
-use Rattle.answer.proofs.Rows.{first_append, append_none, none_append, none_first}
-use Rattle.answer.proofs.Elses.{stopped, passed, answered}
+use Rattle.answer.proofs.Rows.{kind, stop, first_append, append_none, none_append, none_first}
+use Rattle.answer.proofs.Elses.{passed, answered}
 use Rattle.block.specs.Bytes.{Bytes}
-use Rattle.table.specs.declared.Reading.{Reading}
-use Rattle.table.specs.declared.Reading.TheVariants.{Header}
-use Rattle.table.specs.Said.{said}
 use Rattle.table.specs.Order.{header_block, header_said, table_rows, table_said}
 use Rattle.table.specs.Numbers.{numbers_in}
 use Rattle.table.specs.inner.Accepted.{LawfulWith}
-use Rattle.table.proofs.Readings.{reading, tag}
 use Rattle.table.proofs.Accepted.{accepted_with}
 use Rattle.choices.specs.Tasks.{cells_of_table}
 use Rattle.taking.specs.Take.{lent_rows}
@@ -36,8 +32,8 @@ module _ (bytes : List ℕ) (cells out : ℕ) where
   unfolding lent_rows
   then_own e = e ∙ sym (first_append (table_rows bytes) own front)
 
-  pub turned_away : (r : Reading) → OneOf (0 ∷ 2 ∷ 3 ∷ []) (tag r) → said r ≡ table_said bytes → Says (said r)
-  turned_away r one q = then_own (stopped reading (0 ∷ 2 ∷ 3 ∷ []) r (table_rows bytes) front (first own front) tt one q)
+  pub turned_away : {s : Said} → (kind s ≡ 1 → ⊥) → s ≡ table_said bytes → Says s
+  turned_away other q = then_own (stop (table_rows bytes) front (first own front) other q)
 
   module _ (none : NoneGiven (table_rows bytes)) where
     past : {s : Said} → s ≡ first own front → Says s
@@ -71,9 +67,9 @@ module _ (bytes : List ℕ) (cells out : ℕ) where
     pub room : cells_of_table bytes ≤ cells
     pub space : (numbers_in bytes).tasks ≤ out
 
-  pub lent : (r : Reading) (n m H : ℕ) → Bytes bytes → tag r ≡ 1 → Says (said r) → r ≡ Header n m H → Lent n m H
-  lent r n m H b t q e =
-      let p = all_none (passed reading (1 ∷ []) r (lent_rows bytes cells out) front tt t q) in
-      let told : said r ≡ table_said bytes =
-      answered reading (1 ∷ []) r (lent_rows bytes cells out) front tt t q ∙ sym (none_first (table_rows bytes) front p.0) in
-      record { lawful = accepted_with bytes r n m H b t told e; none = p.0; room = p.1; space = p.2 }
+  pub lent : (n m H : ℕ) → Bytes bytes → Says (header n m H) → Lent n m H
+  lent n m H b q =
+      let p = all_none (passed (lent_rows bytes cells out) front (λ z. omega (arith, z)) q) in
+      let told : header n m H ≡ table_said bytes =
+      answered (lent_rows bytes cells out) front (λ z. omega (arith, z)) q ∙ sym (none_first (table_rows bytes) front p.0) in
+      record { lawful = accepted_with bytes n m H b told; none = p.0; room = p.1; space = p.2 }
