@@ -4,13 +4,13 @@ use native.Mathlib.Omega.{arith}
 use mathlib.Core.Path.{◌≡◌, refl, ◌∙◌}
 use mathlib.Core.Logic.{◌⊎◌, inl, inr}
 use mathlib.Core.Bool.{true, false}
-use mathlib.Core.List.{List, [], ◌∷◌}
+use mathlib.Core.List.{List}
 use borrow.Author.Tests.{leb-true, leb-false}
-use types.Run.{OneOf}
 use lib.Dec.{leb}
 use lib.ListN.{length}
 use Rattle.answer.specs.Said.{refused}
 use Rattle.answer.specs.Order.{NoneGiven}
+use Rattle.answer.proofs.Rows.{kind}
 use Rattle.model.specs.Cells.{mark}
 use Rattle.model.specs.Workspace.{fill}
 use Rattle.model.specs.inner.Fitting.{least_cores}
@@ -20,7 +20,7 @@ use Rattle.table.specs.Said.{said as said_of}
 use Rattle.table.specs.Order.{header_block, header_said}
 use Rattle.table.specs.inner.Refusals.{refusal_of}
 use Rattle.table.specs.inner.Accepted.{LawfulTable}
-use Rattle.table.proofs.Readings.{tag, handed_else}
+use Rattle.table.proofs.Readings.{handed_else}
 use Rattle.choices.specs.Tasks.{tasks_of_table, cores_of_table, cells_of_table}
 use Rattle.portions.specs.Portion.{rule_of}
 use Rattle.taking.specs.declared.Taken.{Taken}
@@ -33,11 +33,11 @@ use Rattle.whole.proofs.Filled.{all_hold, taken}
 
 module _ (bytes cells out : List ℕ) where
   -- the table or what is lent is refused
-  pub turned_away : (r : Taken) (got : Reading) → OneOf (0 ∷ 2 ∷ 3 ∷ []) (tag got) → Says bytes (length cells) (length out) (said_of got)
+  pub turned_away : (r : Taken) (got : Reading) → (kind (said_of got) ≡ 1 → ⊥) → Says bytes (length cells) (length out) (said_of got)
       → said r ≡ refused (refusal_of got).number (refusal_of got).at → PlannedWhole bytes cells out r cells out
-  turned_away r got one q e =
+  turned_away r got other q e =
       inl record {
-        answer = λ rest. e ∙ (handed_else (0 ∷ 2 ∷ 3 ∷ []) got (lent_rows bytes (length cells) (length out)) (header_said (header_block bytes)) rest cells cells tt one q).says;
+        answer = λ rest. e ∙ (handed_else got (lent_rows bytes (length cells) (length out)) (header_said (header_block bytes)) rest cells cells other q).says;
         cells_kept = refl;
         out_kept = refl;
       }
