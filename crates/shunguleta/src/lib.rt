@@ -1,4 +1,4 @@
-// The planner for C and Rust: each call with its slices as pointer and length, and its answer as a plain reply. No rule of its own.
+// The planner's calls with a plain reply for an answer, as C and Rust see them. No rule of its own.
 #![tactic(auto)]
 
 ghost use Rattle.std.specs.Prelude.{◌≡◌};
@@ -116,72 +116,49 @@ fn of_written(got: Written) -> Reply
 }
 
 // The calls, each with the promise of the one that it makes.
-#[unsafe(no_mangle)]
-pub extern "C" fn shunguleta_check(table: &[u8]) -> Reply
+pub fn shunguleta_check(table: &[u8]) -> Reply
     ensures { Replied reading_said (λ answer. reading_said answer ≡ table_said table.now) result }
 {
     of_reading(table::check(table))
 }
 
-#[unsafe(no_mangle)]
-pub extern "C" fn shunguleta_ask_task(table: &[u8], task: u32) -> Reply
+pub fn shunguleta_ask_task(table: &[u8], task: u32) -> Reply
     ensures { Replied reading_said (λ answer. reading_said answer ≡ ask_task_said table.now task) result }
 {
     of_reading(table::ask_task(table, task))
 }
 
-#[unsafe(no_mangle)]
-pub extern "C" fn shunguleta_ask_mode(table: &[u8], task: u32, mode: u32) -> Reply
+pub fn shunguleta_ask_mode(table: &[u8], task: u32, mode: u32) -> Reply
     ensures { Replied reading_said (λ answer. reading_said answer ≡ ask_mode_said table.now task mode) result }
 {
     of_reading(table::ask_mode(table, task, mode))
 }
 
-#[unsafe(no_mangle)]
-pub extern "C" fn shunguleta_ask_choice(table: &[u8], task: u32, mode: u32) -> Reply
+pub fn shunguleta_ask_choice(table: &[u8], task: u32, mode: u32) -> Reply
     ensures { Replied choosing_said (λ answer. choosing_said answer ≡ ask_choice_said table.now task mode) result }
 {
     of_choosing(choices::ask_choice(table, task, mode))
 }
 
-#[unsafe(no_mangle)]
-pub extern "C" fn shunguleta_portion(
-    table: &[u8],
-    cells: &mut [u64],
-    progress: u32,
-    budget: u32,
-) -> Reply
+pub fn shunguleta_portion(table: &[u8], cells: &mut [u64], progress: u32, budget: u32) -> Reply
     ensures { Replied filling_said (λ answer. Portioned table.now cells.old progress budget answer cells.new) result }
 {
     of_filling(portions::portion(table, cells, progress, budget))
 }
 
-#[unsafe(no_mangle)]
-pub extern "C" fn shunguleta_take(
-    table: &[u8],
-    cells: &[u64],
-    progress: u32,
-    out: &mut [u8],
-) -> Reply
+pub fn shunguleta_take(table: &[u8], cells: &[u64], progress: u32, out: &mut [u8]) -> Reply
     ensures { Replied taken_said (λ answer. TookPlan table.now cells.now progress out.old answer out.new) result }
 {
     of_taken(taking::take(table, cells, progress, out))
 }
 
-#[unsafe(no_mangle)]
-pub extern "C" fn shunguleta_write_header(
-    tasks: u16,
-    cores: u16,
-    common: u32,
-    out: &mut [u8],
-) -> Reply
+pub fn shunguleta_write_header(tasks: u16, cores: u16, common: u32, out: &mut [u8]) -> Reply
     ensures { Replied written_said (λ answer. WroteHeader tasks cores common out.old answer out.new) result }
 {
     of_written(writer::write_header(tasks, cores, common, out))
 }
 
-#[unsafe(no_mangle)]
-pub extern "C" fn shunguleta_write_task(
+pub fn shunguleta_write_task(
     common: u32,
     number: u16,
     elasticity: u8,
@@ -195,8 +172,7 @@ pub extern "C" fn shunguleta_write_task(
     of_written(writer::write_task(common, number, elasticity, modes, permitted, figures, out))
 }
 
-#[unsafe(no_mangle)]
-pub extern "C" fn shunguleta_plan_whole(table: &[u8], cells: &mut [u64], out: &mut [u8]) -> Reply
+pub fn shunguleta_plan_whole(table: &[u8], cells: &mut [u64], out: &mut [u8]) -> Reply
     ensures { Replied taken_said (λ answer. PlannedWhole table.now cells.old out.old answer cells.new out.new) result }
 {
     of_taken(whole::plan_whole(table, cells, out))

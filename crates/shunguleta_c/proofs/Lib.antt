@@ -1,0 +1,2 @@
+-- each call's reply is settled
+mod Settled

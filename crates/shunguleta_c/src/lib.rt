@@ -1,0 +1,103 @@
+// The calls for C and Rust: those of `shunguleta` under their own symbols, with slices as pointer and length. No rule of its own.
+#![tactic(auto)]
+
+ghost use Rattle.std.specs.Prelude.{◌≡◌};
+ghost use Rattle.table.specs.Said.{said as reading_said};
+ghost use Rattle.table.specs.Order.{table_said, ask_task_said, ask_mode_said};
+ghost use Rattle.choices.specs.Said.{said as choosing_said, ask_choice_said};
+ghost use Rattle.writer.specs.Said.{said as written_said};
+ghost use Rattle.writer.specs.Order.{WroteHeader, WroteTask};
+ghost use Rattle.portions.specs.Said.{said as filling_said};
+ghost use Rattle.portions.specs.Portion.{Portioned};
+ghost use Rattle.taking.specs.Said.{said as taken_said};
+ghost use Rattle.taking.specs.Take.{TookPlan};
+ghost use Rattle.whole.specs.Whole.{PlannedWhole};
+ghost use Rattle.shunguleta.specs.Reply.{Replied};
+
+use shunguleta::Reply;
+
+#[unsafe(no_mangle)]
+pub extern "C" fn shunguleta_check(table: &[u8]) -> Reply
+    ensures { Replied reading_said (λ answer. reading_said answer ≡ table_said table.now) result }
+{
+    shunguleta::shunguleta_check(table)
+}
+
+#[unsafe(no_mangle)]
+pub extern "C" fn shunguleta_ask_task(table: &[u8], task: u32) -> Reply
+    ensures { Replied reading_said (λ answer. reading_said answer ≡ ask_task_said table.now task) result }
+{
+    shunguleta::shunguleta_ask_task(table, task)
+}
+
+#[unsafe(no_mangle)]
+pub extern "C" fn shunguleta_ask_mode(table: &[u8], task: u32, mode: u32) -> Reply
+    ensures { Replied reading_said (λ answer. reading_said answer ≡ ask_mode_said table.now task mode) result }
+{
+    shunguleta::shunguleta_ask_mode(table, task, mode)
+}
+
+#[unsafe(no_mangle)]
+pub extern "C" fn shunguleta_ask_choice(table: &[u8], task: u32, mode: u32) -> Reply
+    ensures { Replied choosing_said (λ answer. choosing_said answer ≡ ask_choice_said table.now task mode) result }
+{
+    shunguleta::shunguleta_ask_choice(table, task, mode)
+}
+
+#[unsafe(no_mangle)]
+pub extern "C" fn shunguleta_portion(
+    table: &[u8],
+    cells: &mut [u64],
+    progress: u32,
+    budget: u32,
+) -> Reply
+    ensures { Replied filling_said (λ answer. Portioned table.now cells.old progress budget answer cells.new) result }
+{
+    shunguleta::shunguleta_portion(table, cells, progress, budget)
+}
+
+#[unsafe(no_mangle)]
+pub extern "C" fn shunguleta_take(
+    table: &[u8],
+    cells: &[u64],
+    progress: u32,
+    out: &mut [u8],
+) -> Reply
+    ensures { Replied taken_said (λ answer. TookPlan table.now cells.now progress out.old answer out.new) result }
+{
+    shunguleta::shunguleta_take(table, cells, progress, out)
+}
+
+#[unsafe(no_mangle)]
+pub extern "C" fn shunguleta_write_header(
+    tasks: u16,
+    cores: u16,
+    common: u32,
+    out: &mut [u8],
+) -> Reply
+    ensures { Replied written_said (λ answer. WroteHeader tasks cores common out.old answer out.new) result }
+{
+    shunguleta::shunguleta_write_header(tasks, cores, common, out)
+}
+
+#[unsafe(no_mangle)]
+pub extern "C" fn shunguleta_write_task(
+    common: u32,
+    number: u16,
+    elasticity: u8,
+    modes: u8,
+    permitted: u16,
+    figures: &[u32],
+    out: &mut [u8],
+) -> Reply
+    ensures { Replied written_said (λ answer. WroteTask common number elasticity modes permitted figures.now out.old answer out.new) result }
+{
+    shunguleta::shunguleta_write_task(common, number, elasticity, modes, permitted, figures, out)
+}
+
+#[unsafe(no_mangle)]
+pub extern "C" fn shunguleta_plan_whole(table: &[u8], cells: &mut [u64], out: &mut [u8]) -> Reply
+    ensures { Replied taken_said (λ answer. PlannedWhole table.now cells.old out.old answer cells.new out.new) result }
+{
+    shunguleta::shunguleta_plan_whole(table, cells, out)
+}
