@@ -14,15 +14,17 @@
 // Every cell of a fresh workspace holds 77, and every byte of the output 170 before the call.
 #![tactic(auto)]
 
-ghost use Rattle.std.specs.Prelude.{◌<◌, ◌≤◌, length};
+ghost use Rattle.std.specs.Prelude.{◌<◌, ◌≤◌, length, IfOk};
 
 use block::{get8, get16, get32};
-use libc::STDOUT_FILENO;
 use shunguleta::{
     Reply, shunguleta_ask_choice, shunguleta_ask_mode, shunguleta_ask_task, shunguleta_check,
     shunguleta_plan_whole, shunguleta_portion, shunguleta_take, shunguleta_write_header,
     shunguleta_write_task,
 };
+use std::fs::File;
+use std::io;
+use std::io::Read;
 
 // The most that a call is lent: bytes of a table, cells, bytes of output, figures. And its head with the longest name.
 const TABLE: usize = 17408;
@@ -45,16 +47,16 @@ struct Entry {
     value: u64,
 }
 
-fn word(text: &[u8]) {
-    io::write_all(STDOUT_FILENO, text);
+fn word(rt: &impl Print, text: &[u8]) -> io::Result<()> {
+    rt.write_all(text)
 }
 
-fn number(x: u64) {
-    io::print_decimal(STDOUT_FILENO, x);
+fn number(rt: &impl Print, x: u64) -> io::Result<()> {
+    rt.print(x)
 }
 
-fn letter(x: u8) {
-    word(&[x]);
+fn letter(rt: &impl Print, x: u8) -> io::Result<()> {
+    word(rt, &[x])
 }
 
 fn count_at(head: &[u8], at: u16) -> usize {
@@ -62,32 +64,32 @@ fn count_at(head: &[u8], at: u16) -> usize {
 }
 
 // Reads the bytes from one place up to another; whether there are such places, and so many bytes left in the file.
-fn fetch(fd: i32, bytes: &mut [u8], from: usize, to: usize) -> bool {
+fn fetch(file: &mut File, bytes: &mut [u8], from: usize, to: usize) -> bool {
     if from <= to && to <= bytes.len() {
-        to - from == io::read_full(fd, &mut bytes[from..to])
+        file.read_exact(&mut bytes[from..to]).is_ok()
     } else {
         false
     }
 }
 
 // The base of the tables that follow: its bytes, and 0 past them.
-fn fetch_base(fd: i32, base: &mut [u8; TABLE]) -> bool {
+fn fetch_base(file: &mut File, base: &mut [u8; TABLE]) -> bool {
     let mut size = [0u8; 2];
     *base = [0u8; TABLE];
-    fetch(fd, &mut size, 0, 2) && fetch(fd, base, 0, count_at(&size, 0))
+    fetch(file, &mut size, 0, 2) && fetch(file, base, 0, count_at(&size, 0))
 }
 
 // The rest of a call's head, and its name.
-fn fetch_head(fd: i32, head: &mut [u8; HEAD]) -> bool {
-    let whole = fetch(fd, head, 1, 32);
+fn fetch_head(file: &mut File, head: &mut [u8; HEAD]) -> bool {
+    let whole = fetch(file, head, 1, 32);
     let letters = get8(head, 28) as usize;
-    whole && fetch(fd, head, 32, 32 + letters)
+    whole && fetch(file, head, 32, 32 + letters)
 }
 
 // One entry of so many bytes, two of them for the place. Where the file ends, an entry for no place.
-fn fetch_entry(fd: i32, size: usize) -> Entry {
+fn fetch_entry(file: &mut File, size: usize) -> Entry {
     let mut bytes = [0u8; 10];
-    let whole = fetch(fd, &mut bytes, 0, size);
+    let whole = fetch(file, &mut bytes, 0, size);
     let low = get32(&bytes, 2) as u64;
     let high = get32(&bytes, 6) as u64;
     Entry {
@@ -96,10 +98,10 @@ fn fetch_entry(fd: i32, size: usize) -> Entry {
     }
 }
 
-fn patch_table(fd: i32, count: usize, table: &mut [u8; TABLE]) -> bool {
+fn patch_table(file: &mut File, count: usize, table: &mut [u8; TABLE]) -> bool {
     let mut left = count;
     while 0 < left {
-        let entry = fetch_entry(fd, 3);
+        let entry = fetch_entry(file, 3);
         let at = entry.at;
         if TABLE <= at {
             return false;
@@ -110,10 +112,10 @@ fn patch_table(fd: i32, count: usize, table: &mut [u8; TABLE]) -> bool {
     true
 }
 
-fn patch_cells(fd: i32, count: usize, cells: &mut [u64; CELLS]) -> bool {
+fn patch_cells(file: &mut File, count: usize, cells: &mut [u64; CELLS]) -> bool {
     let mut left = count;
     while 0 < left {
-        let entry = fetch_entry(fd, 10);
+        let entry = fetch_entry(file, 10);
         let at = entry.at;
         if CELLS <= at {
             return false;
@@ -124,9 +126,9 @@ fn patch_cells(fd: i32, count: usize, cells: &mut [u64; CELLS]) -> bool {
     true
 }
 
-fn fetch_figures(fd: i32, count: u16, figures: &mut [u32; FIGURES]) -> bool {
+fn fetch_figures(file: &mut File, count: u16, figures: &mut [u32; FIGURES]) -> bool {
     let mut bytes = [0u8; 240];
-    let whole = fetch(fd, &mut bytes, 0, 4 * count as usize);
+    let whole = fetch(file, &mut bytes, 0, 4 * count as usize);
     let mut at = 0;
     while at < FIGURES {
         figures[at] = get32(&bytes, 4 * at as u16);
@@ -162,60 +164,62 @@ fn call(head: &[u8], table: &[u8], cells: &mut [u64], figures: &[u32], out: &mut
     }
 }
 
-fn show_reply(reply: Reply) {
+fn show_reply(rt: &impl Print, reply: Reply) -> io::Result<()> {
     if reply.number == 0 {
         let values = reply.values;
-        word(b": given ");
-        number(values[0]);
-        letter(b' ');
-        number(values[1]);
-        letter(b' ');
-        number(values[2]);
+        word(rt, b": given ")?;
+        number(rt, values[0])?;
+        letter(rt, b' ')?;
+        number(rt, values[1])?;
+        letter(rt, b' ')?;
+        number(rt, values[2])
     } else {
-        word(b": refused ");
-        number(reply.number as u64);
-        word(b" at ");
-        number(reply.at as u64);
+        word(rt, b": refused ")?;
+        number(rt, reply.number as u64)?;
+        word(rt, b" at ")?;
+        number(rt, reply.at as u64)
     }
 }
 
 // A value, and how often where it stands more than once in a row.
-fn show_times(value: u64, count: usize) {
-    number(value);
+fn show_times(rt: &impl Print, value: u64, count: usize) -> io::Result<()> {
+    number(rt, value)?;
     if 1 < count {
-        letter(b'*');
-        number(count as u64);
+        letter(rt, b'*')?;
+        number(rt, count as u64)?;
     }
+    Ok(())
 }
 
 // Shows the run of equal numbers between two places, unless it goes on; answers where the run begins that is still to be shown.
-fn show_run(numbers: &[u64], from: usize, to: usize) -> usize
+fn show_run(rt: &impl Print, numbers: &[u64], from: usize, to: usize) -> io::Result<usize>
     requires from_lt_to { from < to }
     requires to_in_bounds { to ≤ length numbers.now }
-    ensures { result ≤ to }
+    ensures { IfOk result (λ next. next ≤ to) }
 {
     let value = numbers[from];
     if to < numbers.len() && numbers[to] == value {
-        from
+        Ok(from)
     } else {
         if 0 < from {
-            letter(b' ');
+            letter(rt, b' ')?;
         }
-        show_times(value, to - from);
-        to
+        show_times(rt, value, to - from)?;
+        Ok(to)
     }
 }
 
-fn show_numbers(numbers: &[u64]) {
+fn show_numbers(rt: &impl Print, numbers: &[u64]) -> io::Result<()> {
     if numbers.len() == 0 {
-        word(b"none");
+        word(rt, b"none")?;
     }
     let mut from = 0;
     let mut to = 0;
     while to < numbers.len() {
         to += 1;
-        from = show_run(numbers, from, to);
+        from = show_run(rt, numbers, from, to)?;
     }
+    Ok(())
 }
 
 // The bytes as numbers, and 0 past them.
@@ -227,42 +231,57 @@ fn widen(bytes: &[u8], numbers: &mut [u64]) {
     }
 }
 
-fn show_out(out: &[u8]) {
+fn show_out(rt: &impl Print, out: &[u8]) -> io::Result<()> {
     let mut numbers = [0u64; OUT];
     let count = out.len();
     widen(out, &mut numbers);
-    word(b" out ");
+    word(rt, b" out ")?;
     // no output is longer
     if count <= OUT {
-        show_numbers(&numbers[0..count]);
+        show_numbers(rt, &numbers[0..count])?;
     }
+    Ok(())
 }
 
-fn show_name(head: &[u8]) {
+fn show_name(rt: &impl Print, head: &[u8]) -> io::Result<()> {
     let end = 32 + get8(head, 28) as usize;
     if end <= head.len() {
-        word(&head[32..end]);
+        word(rt, &head[32..end])?;
     }
+    Ok(())
 }
 
 // Makes the call over what is lent to it, and shows its answer and what it may have written.
-fn show_call(head: &[u8], table: &[u8], cells: &mut [u64], figures: &[u32], out: &mut [u8]) {
+fn show_call(
+    rt: &impl Print,
+    head: &[u8],
+    table: &[u8],
+    cells: &mut [u64],
+    figures: &[u32],
+    out: &mut [u8],
+) -> io::Result<()> {
     let kind = get8(head, 0);
-    show_name(head);
-    show_reply(call(head, table, cells, figures, out));
+    show_name(rt, head)?;
+    show_reply(rt, call(head, table, cells, figures, out))?;
     // take, the writers and the whole plan may write to the output, a portion and the whole plan to the workspace
     if (6 <= kind) & (kind <= 9) {
-        show_out(out);
+        show_out(rt, out)?;
     }
     if (kind == 5) | (kind == 9) {
-        word(b" cells ");
-        show_numbers(cells);
+        word(rt, b" cells ")?;
+        show_numbers(rt, cells)?;
     }
-    letter(b'\n');
+    letter(rt, b'\n')
 }
 
 // Lends the call as much of each buffer as its head says; whether there is so much.
-fn lend(head: &[u8], table: &[u8], cells: &mut [u64], figures: &[u32]) -> bool {
+fn lend(
+    rt: &impl Print,
+    head: &[u8],
+    table: &[u8],
+    cells: &mut [u64],
+    figures: &[u32],
+) -> io::Result<bool> {
     let mut out = [170u8; OUT];
     let bytes = count_at(head, 2);
     let count = count_at(head, 4);
@@ -270,15 +289,16 @@ fn lend(head: &[u8], table: &[u8], cells: &mut [u64], figures: &[u32]) -> bool {
     let listed = count_at(head, 26);
     if bytes <= table.len() && count <= cells.len() && listed <= figures.len() && room <= OUT {
         show_call(
+            rt,
             head,
             &table[0..bytes],
             &mut cells[0..count],
             &figures[0..listed],
             &mut out[0..room],
-        );
-        true
+        )?;
+        Ok(true)
     } else {
-        false
+        Ok(false)
     }
 }
 
@@ -293,64 +313,70 @@ fn fresh(head: &[u8], cells: &mut [u64; CELLS]) -> bool {
 
 // Reads what stands after the name, and makes the call.
 fn complete(
-    fd: i32,
+    rt: &impl Print,
+    file: &mut File,
     head: &[u8],
     table: &mut [u8; TABLE],
     cells: &mut [u64; CELLS],
     figures: &mut [u32; FIGURES],
-) -> bool {
-    patch_table(fd, count_at(head, 22), table)
-        && patch_cells(fd, count_at(head, 24), cells)
-        && fetch_figures(fd, get16(head, 26), figures)
-        && lend(head, table, cells, figures)
+) -> io::Result<bool> {
+    Ok(
+        patch_table(file, count_at(head, 22), table)
+            && patch_cells(file, count_at(head, 24), cells)
+            && fetch_figures(file, get16(head, 26), figures)
+            && lend(rt, head, table, cells, figures)?,
+    )
 }
 
 // One record, by the kind that its head begins with; whether it is whole and lawful.
 fn record(
-    fd: i32,
+    rt: &impl Print,
+    file: &mut File,
     head: &mut [u8; HEAD],
     base: &mut [u8; TABLE],
     cells: &mut [u64; CELLS],
-) -> bool {
+) -> io::Result<bool> {
     let mut table = *base;
     let mut figures = [0u32; FIGURES];
     if head[0] == 0 {
-        fetch_base(fd, base)
+        Ok(fetch_base(file, base))
     } else {
-        head[0] <= 9
-            && fetch_head(fd, head)
-            && fresh(head, cells)
-            && complete(fd, head, &mut table, cells, &mut figures)
+        Ok(
+            head[0] <= 9
+                && fetch_head(file, head)
+                && fresh(head, cells)
+                && complete(rt, file, head, &mut table, cells, &mut figures)?,
+        )
     }
 }
 
 // The next record, and whether there may be another.
-fn next(fd: i32, base: &mut [u8; TABLE], cells: &mut [u64; CELLS]) -> bool {
+fn next(
+    rt: &impl Print,
+    file: &mut File,
+    base: &mut [u8; TABLE],
+    cells: &mut [u64; CELLS],
+) -> io::Result<bool> {
     let mut head = [0u8; HEAD];
-    if fetch(fd, &mut head, 0, 1) {
-        let whole = record(fd, &mut head, base, cells);
+    if fetch(file, &mut head, 0, 1) {
+        let whole = record(rt, file, &mut head, base, cells)?;
         if !whole {
-            word(b"bad record\n");
+            word(rt, b"bad record\n")?;
         }
-        whole
+        Ok(whole)
     } else {
-        false
+        Ok(false)
     }
 }
 
-fn main() {
-    let path = b"calls";
-    let fd = os::open_read(path);
-    if fd < 0 {
-        os::fail(path);
-        return;
-    }
+fn main(rt: HostRuntime) -> io::Result<()> {
+    let mut file = File::open(&rt, "calls")?;
     let mut base = [0u8; TABLE];
     let mut cells = [77u64; CELLS];
     // more turns than a stored file has records
     let mut turns: u32 = 100000;
-    while 0 < turns && next(fd, &mut base, &mut cells) {
+    while 0 < turns && next(&rt, &mut file, &mut base, &mut cells)? {
         turns -= 1;
     }
-    libc::close(fd);
+    Ok(())
 }
