@@ -18,12 +18,11 @@ loop-p-init c = (omega arith, omega arith, omega arith, c.hold_row-row.ensures, 
 
 pub loop-p-preserved : goal.loop-p-preserved
 loop-p-preserved c =
-    let t = c in
-    let l = t.loop-p in
-    let a = t.args in
+    let l = c.loop-p in
+    let a = c.args in
     let f = rule a.need.now a.cost.now a.next a.start in
     let v = c.least-v.ensures
-    ∙ held_rule (held_task a.need.now a.cost.now) f a.cells.now t.hold_row-row.result a.next a.start a.from l.p (a.to - a.start)
+    ∙ held_rule (held_task a.need.now a.cost.now) f a.cells.now c.hold_row-row.result a.next a.start a.from l.p (a.to - a.start)
     (omega arith) (omega arith) (omega arith) (omega arith) l.invariant.3
     ∙ ap (λ (ws : List ℕ). f ws l.p) (sym l.invariant.4) in
     (omega arith, omega arith, simp length-set l.invariant.2, l.invariant.3, fill_turn f a.cells.now l.cells a.from l.p c.least-v.result l.invariant.0 l.invariant.4 v)

@@ -16,12 +16,10 @@ loop-j-init c =
 
 pub loop-j-preserved : goal.loop-j-preserved
 loop-j-preserved c =
-    let l = c in
-    let a = l.args in
-    omega (arith, ap reads c.lesser-best.ensures ∙ reads_min l.loop-j.best c.offer.result, c.offer.ensures, least_step a.need.now a.cost.now (row_from a.row.now 0) a.column l.loop-j.j (omega arith) (omega arith))
+    let a = c.args in
+    omega (arith, ap reads c.lesser-best.ensures ∙ reads_min c.loop-j.best c.offer.result, c.offer.ensures, least_step a.need.now a.cost.now (row_from a.row.now 0) a.column c.loop-j.j (omega arith) (omega arith))
 
 pub returns : goal.returns
 returns c =
-    let l = c in
-    let a = l.args in
-    omega (arith, c.reads.ensures, least_end a.need.now a.cost.now (row_from a.row.now 0) a.column l.loop-j.j (omega arith))
+    let a = c.args in
+    omega (arith, c.reads.ensures, least_end a.need.now a.cost.now (row_from a.row.now 0) a.column c.loop-j.j (omega arith))

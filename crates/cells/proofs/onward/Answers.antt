@@ -12,8 +12,7 @@ overflow_add-cost c = omega (arith, counted _ _ c.count_of.ensures)
 pub returns : goal.returns
 unfolding onward
 returns c =
-    let o = c in
-    let a = o.args in
+    let a = c.args in
     c.reads.ensures
-    ∙ ap (λ (y : ℕ). reads (a.cost + y)) o.count_of.ensures
+    ∙ ap (λ (y : ℕ). reads (a.cost + y)) c.count_of.ensures
     ∙ counts_sum a.cost (get_or a.cells.now (a.next + (a.column - a.need)) 0)

@@ -11,11 +11,10 @@ use Rattle.choices.proofs.choice_at.Goals as goal
 
 pub returns : goal.returns
 returns c =
-    let s = c in
-    let a = s.args in
+    let a = c.args in
     let t = task_numbers_in a.block.now in
     let j = a.j in
-    let below : j < length (costs_of a.common t) = rw (each_length (cost_at a.common t) 0 t.modes) s.requires.1 in
+    let below : j < length (costs_of a.common t) = rw (each_length (cost_at a.common t) 0 t.modes) c.requires.1 in
     let price : get_or c.costs-prices.result j 0 ≡ cost_at a.common t j =
-    rw (c.costs-prices.ensures, sixteen_at (costs_of a.common t) j below, each_at (cost_at a.common t) 0 0 t.modes j s.requires.1, zero-add j) in
+    rw (c.costs-prices.ensures, sixteen_at (costs_of a.common t) j below, each_at (cost_at a.common t) 0 0 t.modes j c.requires.1, zero-add j) in
     rw (c.permits-permitted.ensures, c.get16.ensures, price)

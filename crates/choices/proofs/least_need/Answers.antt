@@ -11,21 +11,18 @@ loop-j-init c = (omega arith, omega arith, λ H. left_none H (task_numbers_in c.
 
 pub loop-j-preserved : goal.loop-j-preserved
 loop-j-preserved c =
-    let n = c in
-    let l = n.loop-j in
-    let g = n in
-    let s = g in
-    let t = task_numbers_in s.args.block.now in
-    let count : g.get8-count.result ≡ t.modes = g.get8-count.ensures in
-    let low : l.j < g.get8-count.result = omega arith in (
+    let l = c.loop-j in
+    let t = task_numbers_in c.args.block.now in
+    let count : c.get8-count.result ≡ t.modes = c.get8-count.ensures in
+    let low : l.j < c.get8-count.result = omega arith in (
       omega arith,
       omega (arith, c.lesser-least.ensures, l.invariant.1),
       λ H.
           omega (
             arith,
             c.lesser-least.ensures,
-            n.need_of.ensures,
-            left_one H t l.j g.get8-count.result low (s.requires l.j (omega (arith, count))),
+            c.need_of.ensures,
+            left_one H t l.j c.get8-count.result low (c.requires l.j (omega (arith, count))),
             l.invariant.2 H,
           ),
     )
@@ -33,7 +30,6 @@ loop-j-preserved c =
 pub returns : goal.returns
 returns c H =
     let l = c.loop-j in
-    let g = c in
-    let t = task_numbers_in g.args.block.now in
-    let n = g.get8-count.result in
-    omega (arith, l.invariant.1, l.invariant.2 H, left_end H t l.j n (omega arith), left_all H t n g.get8-count.ensures)
+    let t = task_numbers_in c.args.block.now in
+    let n = c.get8-count.result in
+    omega (arith, l.invariant.1, l.invariant.2 H, left_end H t l.j n (omega arith), left_all H t n c.get8-count.ensures)

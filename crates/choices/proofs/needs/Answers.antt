@@ -11,6 +11,5 @@ loop-j-init c = (omega arith, sixteen_none _)
 pub loop-j-preserved : goal.loop-j-preserved
 loop-j-preserved c =
     let l = c.loop-j in
-    let g = c in
-    let f = need_at (task_numbers_in g.args.block.now) in
+    let f = need_at (task_numbers_in c.args.block.now) in
     (omega arith, sixteen_more f l.out l.j c.need_of-need.result (omega arith) c.need_of-need.ensures l.invariant.1)

@@ -10,12 +10,10 @@ loop-p-init c = (omega arith, omega arith, omega arith, fill_none _ _ _)
 
 pub loop-p-preserved : goal.loop-p-preserved
 loop-p-preserved c =
-    let r = c in
-    let l = r in
-    let a = l.args in (
+    let a = c.args in (
       omega arith,
       omega arith,
-      r.row_run.auto.cells ∙ l.loop-p.invariant.2,
-      fill_chain (rule_of a.table.now) a.cells.now l.loop-p.cells r.row_run.new.cells a.from l.loop-p.p r.row_stop-stop.result
-          l.loop-p.invariant.0 (omega arith) l.loop-p.invariant.3 r.row_run.ensures,
+      c.row_run.auto.cells ∙ c.loop-p.invariant.2,
+      fill_chain (rule_of a.table.now) a.cells.now c.loop-p.cells c.row_run.new.cells a.from c.loop-p.p c.row_stop-stop.result
+          c.loop-p.invariant.0 (omega arith) c.loop-p.invariant.3 c.row_run.ensures,
     )

@@ -3,6 +3,5 @@ use Rattle.puts.proofs.fill_header.Goals as goal
 
 pub returns : goal.returns
 returns c =
-    let s = c in
-    let a = s.args in
-    cc (header_filled a.out.now a.tasks a.cores a.common s.ranges.tasks.fits s.ranges.cores.fits s.ranges.common.fits s.requires)
+    let a = c.args in
+    cc (header_filled a.out.now a.tasks a.cores a.common c.ranges.tasks.fits c.ranges.cores.fits c.ranges.common.fits c.requires)

@@ -4,6 +4,5 @@ use Rattle.puts.proofs.finish.Goals as goal
 
 pub returns : goal.returns
 returns c =
-    let s = c in
-    let z = closed s.args.out.now s.args.from s.requires.0 (omega (arith, s.requires.1)) in
+    let z = closed c.args.out.now c.args.from c.requires.0 (omega (arith, c.requires.1)) in
     cc z

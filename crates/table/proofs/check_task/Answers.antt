@@ -54,8 +54,7 @@ loop-j-preserved c =
     let a = c.args in
     let block = a.block.now in
     let S = task_said block in
-    let l = c.loop-j in
-    (
+    let l = c.loop-j in (
       l.invariant.0,
       l.invariant.1 ∙ modes_more (figures_in block) a.at a.common l.j _ S c.loop-j-test.true
           ∙ went_on (figure_rows a.at a.common (figures_in block l.j)) (figures_said (figures_in block l.j)) (λ z. omega (arith, z))

@@ -50,9 +50,9 @@ bounds-cost-j c = omega (arith, (loaded (goal.at.bounds-cost-j c).After-costs-co
 
 pub keeps-requires : goal.keeps-requires
 keeps-requires c = (
-      next_in_ws c.requires.lawful c.tasks.invariant c.requires.room.1 (omega (arith, c.tasks.invariant.i_in)),
-      (loaded (goal.at.keeps-requires c).After-costs-cost).priced c.lowest.j (omega (arith, c.lowest.invariant.0)),
-    )
+  next_in_ws c.requires.lawful c.tasks.invariant c.requires.room.1 (omega (arith, c.tasks.invariant.i_in)),
+  (loaded (goal.at.keeps-requires c).After-costs-cost).priced c.lowest.j (omega (arith, c.lowest.invariant.0)),
+)
 
 pub offset_bounds-need-j-then-keeps : goal.offset_bounds-need-j-then-keeps
 offset_bounds-need-j-then-keeps c = omega (arith, (loaded (goal.at.offset_bounds-need-j-then-keeps c).After-costs-cost).few, c.lowest.invariant.0)
@@ -79,7 +79,7 @@ returns-then-i-n c =
 
 pub returns-then-j-count : goal.returns-then-j-count
 returns-then-j-count c = record {
-      all = stuck c.requires.lawful c.tasks.invariant c.requires.room.1 (omega (arith, c.tasks.invariant.i_in)) _ c.reads-cell.ensures _ _ _
-          (loaded (goal.at.returns-then-j-count c).After-costs-cost) (λ j l. c.lowest.invariant.1 j (omega (arith, c.if-j-count.true)));
-      modes = λ e. clash (sym e);
-    }
+  all = stuck c.requires.lawful c.tasks.invariant c.requires.room.1 (omega (arith, c.tasks.invariant.i_in)) _ c.reads-cell.ensures _ _ _
+      (loaded (goal.at.returns-then-j-count c).After-costs-cost) (λ j l. c.lowest.invariant.1 j (omega (arith, c.if-j-count.true)));
+  modes = λ e. clash (sym e);
+}

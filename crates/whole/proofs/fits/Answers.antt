@@ -19,11 +19,11 @@ returns-then-left-need c =
 
 pub loop-i-preserved : goal.loop-i-preserved
 loop-i-preserved c = (
-      omega arith,
-      c.loop-i.invariant.1
-          ∙ fits_less c.requires c.loop-i.i (omega arith) c.task_block.result.now c.task_block.ensures.bytes c.least_need-need.result c.least_need-need.ensures
-          c.loop-i.left c.if-left-need.false,
-    )
+  omega arith,
+  c.loop-i.invariant.1
+      ∙ fits_less c.requires c.loop-i.i (omega arith) c.task_block.result.now c.task_block.ensures.bytes c.least_need-need.result c.least_need-need.ensures
+      c.loop-i.left c.if-left-need.false,
+)
 
 pub returns : goal.returns
 returns c = sym (c.loop-i.invariant.1 ∙ fits_end c.requires c.loop-i.i c.loop-i.left c.loop-i-test.false)
