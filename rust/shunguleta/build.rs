@@ -9,8 +9,8 @@ use std::process::{exit, Command, Stdio};
 use std::time::SystemTime;
 
 const LIBRARY: &str = "libshunguleta.a";
-/// What rt is asked for; it writes the library to target/staticlib.
-const RT: [&str; 2] = ["staticlib", "shunguleta"];
+/// Has rt prove the planner, and writes the library to target/staticlib.
+const ARCHIVE: &str = "tools/archive";
 
 fn main() {
     println!("cargo:rerun-if-env-changed=SHUNGULETA_LIB");
@@ -49,7 +49,7 @@ fn named(folder: &Path) -> PathBuf {
     library
 }
 
-/// The library that rt writes.
+/// The library that tools/archive writes.
 fn built() -> PathBuf {
     let root = variable("CARGO_MANIFEST_DIR").join("../..");
     let crates = libraries(&root.join("crates"));
@@ -61,17 +61,22 @@ fn built() -> PathBuf {
     if !library.is_file() || changed(&library) < newest {
         build(&root);
         if !library.is_file() {
-            fail(&format!("'rt {}' wrote no {}", RT.join(" "), library.display()));
+            fail(&format!("'{ARCHIVE}' wrote no {}", library.display()));
         }
     }
     library
 }
 
-/// The crates that are libraries. The planner stands on no program, so it isn't older for new data
-/// of one.
+/// What the libraries are made of. The planner stands on no program, so it isn't older for new data
+/// of one, nor for what rt keeps of a check.
 fn libraries(crates: &Path) -> Vec<PathBuf> {
     let entries = fs::read_dir(crates).into_iter().flatten().flatten();
-    entries.map(|entry| entry.path()).filter(|path| path.join("src/lib.rt").is_file()).collect()
+    let libraries =
+        entries.map(|entry| entry.path()).filter(|path| path.join("src/lib.rt").is_file());
+    libraries
+        .flat_map(|path| ["src", "specs", "proofs"].map(|folder| path.join(folder)))
+        .filter(|folder| folder.is_dir())
+        .collect()
 }
 
 /// When a file, or the newest file below a folder, was changed; none where there is nothing.
@@ -86,16 +91,14 @@ fn changed(path: &Path) -> Option<SystemTime> {
 /// lines are for cargo.
 fn build(root: &Path) {
     announce();
-    let mut rt = Command::new("rt");
-    rt.args(RT).current_dir(root).stdout(Stdio::from(io::stderr()));
-    match rt.status() {
-        Err(error) => fail(&format!(
-            "target/staticlib has no {LIBRARY} of this planner, and rt, which builds it, doesn't \
-             run ({error}): install the Rattle kit, or set SHUNGULETA_LIB to the library's folder"
+    let mut archive = Command::new(root.join(ARCHIVE));
+    archive.current_dir(root).stdout(Stdio::from(io::stderr()));
+    match archive.status() {
+        Err(error) => fail(&format!("'{ARCHIVE}', which builds {LIBRARY}, doesn't run ({error})")),
+        Ok(status) if !status.success() => fail(&format!(
+            "'{ARCHIVE}' failed ({status}): install the Rattle kit, or set SHUNGULETA_LIB to the \
+             library's folder"
         )),
-        Ok(status) if !status.success() => {
-            fail(&format!("'rt {}' failed ({status})", RT.join(" ")))
-        }
         Ok(_) => {}
     }
 }

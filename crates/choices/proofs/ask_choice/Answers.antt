@@ -69,7 +69,8 @@ choice_at-requires c =
     let g = c.in-Figures in
     let p = past a.table.now a.task a.mode g.work g.span g.period (λ k. (c.type_inv.table k).fits) g.ensures in
     let b = c.task_block.ensures.bytes in
-    (rw (c.get32.ensures, common_read) (block_limits p.given.lawful _ p.given.task _ b), rw b p.given.mode)
+    let common : c.get32.result ≡ (numbers_in a.table.now).common = c.get32.ensures ∙ common_read a.table.now in
+    (rw common (block_limits p.given.lawful _ p.given.task _ b), rw b p.given.mode)
 
 pub returns : goal.returns
 returns c =

@@ -225,7 +225,7 @@ fn listed(table: &Table) -> String {
 
 /// The program `plan`, where it has been built.
 fn plan_program() -> Option<PathBuf> {
-    let plan = Path::new(env!("CARGO_MANIFEST_DIR")).join("../../target/bin/plan");
+    let plan = Path::new(env!("CARGO_MANIFEST_DIR")).join("../../crates/plan/out/plan");
     plan.exists().then_some(plan)
 }
 
