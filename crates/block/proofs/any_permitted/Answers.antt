@@ -1,4 +1,3 @@
--- The invariant: none that was passed is permitted.
 use mathlib.Core.Path.{sym, ◌∙◌}
 use native.Mathlib.Omega.{arith}
 use Rattle.answer.proofs.Bools.{found}

@@ -1,4 +1,3 @@
--- The invariant: the sum is that of the offsets passed.
 use Prim.Native.Nat.{ℕ, ◌+◌, ◌*◌, ◌≤◌, min}
 use mathlib.Core.Path.{◌≡◌, refl, ◌∙◌, ap}
 use native.Mathlib.Omega.{arith}

@@ -1,4 +1,3 @@
--- The invariant: it is decided by the bits of what was passed and by what is left.
 use mathlib.Core.Path.{sym, ◌∙◌}
 use native.Mathlib.Omega.{arith}
 use Rattle.block.proofs.Zeros.{zeros_on, zeros_end}

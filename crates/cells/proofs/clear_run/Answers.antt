@@ -1,4 +1,3 @@
--- The invariant: the cells are what the rule fills up to p.
 use mathlib.Core.Path.{refl}
 use native.Mathlib.Omega.{arith}
 use lib.ListN.{length-set}

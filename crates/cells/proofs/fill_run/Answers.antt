@@ -1,4 +1,3 @@
--- The invariant: the cells are what the rule fills up to p.
 use mathlib.Core.Path.{sym, ap, ◌∙◌}
 use mathlib.Core.List.{List}
 use Prim.Native.Nat.{ℕ, ◌-◌}

@@ -1,4 +1,3 @@
--- The invariant: the cells passed are held.
 use mathlib.Core.Path.{◌∙◌}
 use Prim.Native.Nat.{ℕ}
 use native.Mathlib.Omega.{arith}

@@ -1,4 +1,3 @@
--- The invariant: the least so far and the least of the modes left give the least of all.
 use mathlib.Core.Path.{ap, ◌∙◌}
 use Prim.Native.Nat.{◌+◌}
 use native.Mathlib.Omega.{arith}

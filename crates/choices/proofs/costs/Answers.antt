@@ -1,4 +1,3 @@
--- The invariant: the costs of the modes passed are written.
 use mathlib.Core.Path.{◌≡◌, ◌∙◌}
 use native.Mathlib.Omega.{arith}
 use Rattle.table.specs.Numbers.{task_numbers_in}

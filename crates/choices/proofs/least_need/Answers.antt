@@ -1,4 +1,3 @@
--- The invariant: the least so far and the least of the modes left give the least of all.
 use Prim.Native.Nat.{◌<◌}
 use mathlib.Core.Path.{◌≡◌}
 use native.Mathlib.Omega.{arith}

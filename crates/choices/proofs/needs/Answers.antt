@@ -1,4 +1,3 @@
--- The invariant: the needs of the modes passed are written.
 use native.Mathlib.Omega.{arith}
 use Rattle.table.specs.Numbers.{task_numbers_in}
 use Rattle.choices.specs.inner.Arrays.{need_at}

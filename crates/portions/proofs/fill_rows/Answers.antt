@@ -1,4 +1,3 @@
--- The invariant: the cells are what the rule fills up to p.
 use mathlib.Core.Path.{◌∙◌}
 use native.Mathlib.Omega.{arith}
 use Rattle.model.proofs.Fills.{fill_none, fill_chain}

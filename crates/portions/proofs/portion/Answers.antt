@@ -19,6 +19,7 @@ use Rattle.choices.proofs.Tables.{count_is, count_most}
 use Rattle.portions.specs.Portion.{own_rows, portion_rows, rule_of}
 use Rattle.portions.proofs.Ends.{rest, after, Ends, short, above, done, portioned}
 use Rattle.portions.proofs.portion.Goals as goal
+use Rattle.portions.proofs.portion.Goals.{In-Header}
 
 pub returns-in_default : goal.returns-in_default
 unfolding portion_rows
@@ -36,62 +37,55 @@ returns-in_default c =
     (subst (λ (x : Refusal). Outcome (portion_rows bytes (length a.cells.now) a.progress) r a.cells.now e (refused x.number x.at) a.cells.now) (sym c.refusal_of.ensures) o)
 
 -- past the `let .. else`: the table is lawful, with the numbers that the pattern bound, and none of its rows is given
-record Past (bytes : List ℕ) (n m H : ℕ) : Type 0 where
-  lawful : LawfulWith bytes n m H
-  none : NoneGiven (table_rows bytes)
+lawful : (c : In-Header) → LawfulWith c.args.table.now c.in-Header.tasks c.in-Header.cores c.in-Header.common
+lawful c =
+    let g = c.in-Header in
+    accepted_with c.args.table.now g.tasks g.cores g.common (λ i. (c.type_inv.table i).fits) g.ensures
 
-past : (bytes : List ℕ) (n m H : ℕ) → Bytes bytes → header n m H ≡ table_said bytes → Past bytes n m H
-past bytes n m H is q =
-    record {
-      lawful = accepted_with bytes n m H is q;
-      none = passed (table_rows bytes) (header_said (header_block bytes)) (λ z. omega (arith, z)) q;
-    }
+none : (c : In-Header) → NoneGiven (table_rows c.args.table.now)
+none c =
+    let bytes = c.args.table.now in
+    passed (table_rows bytes) (header_said (header_block bytes)) (λ z. omega (arith, z)) c.in-Header.ensures
 
 pub overflow_mul-count : goal.overflow_mul-count
 overflow_mul-count c =
-    let g = c.in-Header in
-    let p = past c.args.table.now g.tasks g.cores g.common (λ i. (c.type_inv.table i).fits) g.ensures in
-    omega (arith, count_most p.lawful)
+    let k = (goal.at.overflow_mul-count c).In-Header in
+    omega (arith, count_most (lawful k))
 
 pub returns-then-cells-count : goal.returns-then-cells-count
 returns-then-cells-count c =
     let a = c.args in
-    let g = c.in-Header in
-    let p = past a.table.now g.tasks g.cores g.common (λ i. (c.type_inv.table i).fits) g.ensures in
+    let k = (goal.at.returns-then-cells-count c).In-Header in
     portioned a.table.now a.cells.now a.progress a.budget _ _
     (subst (λ (x : Said). Ends a.table.now a.cells.now a.progress a.budget x a.cells.now) (sym c.refuse.ensures)
-    (short a.table.now a.cells.now a.progress a.budget p.none (omega (arith, count_is p.lawful, c.if-cells-count.true))))
+    (short a.table.now a.cells.now a.progress a.budget (none k) (omega (arith, count_is (lawful k), c.if-cells-count.true))))
 
 pub returns-then-count-progress : goal.returns-then-count-progress
 returns-then-count-progress c =
     let a = c.args in
-    let g = c.in-Header in
-    let p = past a.table.now g.tasks g.cores g.common (λ i. (c.type_inv.table i).fits) g.ensures in
+    let k = (goal.at.returns-then-count-progress c).In-Header in
     portioned a.table.now a.cells.now a.progress a.budget _ _
     (subst (λ (x : Said). Ends a.table.now a.cells.now a.progress a.budget x a.cells.now) (sym c.refuse-then-count-progress.ensures)
-    (above a.table.now a.cells.now a.progress a.budget p.none (omega (arith, count_is p.lawful, c.if-cells-count.false))
-    (omega (arith, count_is p.lawful, c.if-count-progress.true))))
+    (above a.table.now a.cells.now a.progress a.budget (none k) (omega (arith, count_is (lawful k), c.if-cells-count.false))
+    (omega (arith, count_is (lawful k), c.if-count-progress.true))))
 
 pub fill_rows-requires-clause-lawful : goal.fill_rows-requires-clause-lawful
 fill_rows-requires-clause-lawful c =
-    let g = c.in-Header in
-    (past c.args.table.now g.tasks g.cores g.common (λ i. (c.type_inv.table i).fits) g.ensures).lawful
+    lawful (goal.at.fill_rows-requires-clause-lawful c).In-Header
 
 pub fill_rows-requires-clause-places : goal.fill_rows-requires-clause-places
 fill_rows-requires-clause-places c =
-    let g = c.in-Header in
-    let p = past c.args.table.now g.tasks g.cores g.common (λ i. (c.type_inv.table i).fits) g.ensures in
-    unfold cell_count in omega (arith, count_most p.lawful, c.if-count-progress.false, c.if-cells-count.false, c.advance-to.ensures)
+    let k = (goal.at.fill_rows-requires-clause-places c).In-Header in
+    unfold cell_count in omega (arith, count_most (lawful k), c.if-count-progress.false, c.if-cells-count.false, c.advance-to.ensures)
 
 pub returns : goal.returns
 returns c =
     let a = c.args in
-    let g = c.in-Header in
-    let p = past a.table.now g.tasks g.cores g.common (λ i. (c.type_inv.table i).fits) g.ensures in
+    let k = (goal.at.returns c).In-Header in
     let to : c.advance-to.result ≡ advance (cells_of_table a.table.now) a.progress a.budget =
-    c.advance-to.ensures ∙ ap (λ (w : ℕ). min (a.progress + a.budget) w) (sym (count_is p.lawful)) in
+    c.advance-to.ensures ∙ ap (λ (w : ℕ). min (a.progress + a.budget) w) (sym (count_is (lawful k))) in
     portioned a.table.now a.cells.now a.progress a.budget _ _
-    (done a.table.now a.cells.now a.progress a.budget p.none (omega (arith, count_is p.lawful, c.if-cells-count.false))
-    (omega (arith, count_is p.lawful, c.if-count-progress.false))
+    (done a.table.now a.cells.now a.progress a.budget (none k) (omega (arith, count_is (lawful k), c.if-cells-count.false))
+    (omega (arith, count_is (lawful k), c.if-count-progress.false))
     (ap filled to)
     (c.fill_rows.ensures ∙ ap (λ (q : ℕ). fill (rule_of a.table.now) a.cells.now a.progress (q - a.progress)) to))

@@ -1,4 +1,3 @@
--- The invariant: zero bytes stand from the offset up to the index.
 use mathlib.Core.Path.{◌≡◌, sym}
 use Prim.Native.Nat.{◌-◌}
 use native.Mathlib.Omega.{arith}

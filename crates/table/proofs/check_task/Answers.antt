@@ -1,4 +1,3 @@
--- The invariant: the rows of the modes passed are not given.
 use mathlib.Core.Path.{◌≡◌, sym, ap, ◌∙◌}
 use Prim.Native.Nat.{ℕ, ◌-◌}
 use native.Mathlib.Nat.{sub-zero}

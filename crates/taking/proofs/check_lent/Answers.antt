@@ -13,6 +13,7 @@ use Rattle.table.proofs.Accepted.{accepted_with}
 use Rattle.choices.proofs.Tables.{count_is}
 use Rattle.taking.proofs.Lent.{turned_away, short_workspace, short_output, enough}
 use Rattle.taking.proofs.check_lent.Goals as goal
+use Rattle.taking.proofs.check_lent.Goals.{In-Header}
 
 pub returns-in_default : goal.returns-in_default
 returns-in_default c =
@@ -21,39 +22,32 @@ returns-in_default c =
     turned_away a.table.now a.cells a.out (not_header r.result c.in_default.not-Header) r.ensures
 
 -- the table is accepted
-record Past (bytes : List ℕ) (n m H : ℕ) : Type 0 where
-  lawful : LawfulWith bytes n m H
-  none : NoneGiven (table_rows bytes)
-  same : header n m H ≡ header_said (header_block bytes)
+lawful : (c : In-Header) → LawfulWith c.args.table.now c.in-Header.tasks c.in-Header.cores c.in-Header.common
+lawful c =
+    let g = c.in-Header in
+    accepted_with c.args.table.now g.tasks g.cores g.common (λ i. (c.type_inv.table i).fits) g.ensures
 
-past : (bytes : List ℕ) (n m H : ℕ) → Bytes bytes → header n m H ≡ table_said bytes → Past bytes n m H
-past bytes n m H is q =
-    let S = header_said (header_block bytes) in
-    record {
-      lawful = accepted_with bytes n m H is q;
-      none = passed (table_rows bytes) S (λ z. omega (arith, z)) q;
-      same = answered (table_rows bytes) S (λ z. omega (arith, z)) q;
-    }
+none : (c : In-Header) → NoneGiven (table_rows c.args.table.now)
+none c =
+    let bytes = c.args.table.now in
+    passed (table_rows bytes) (header_said (header_block bytes)) (λ z. omega (arith, z)) c.in-Header.ensures
 
 pub returns-then-cells-n : goal.returns-then-cells-n
 returns-then-cells-n c =
     let a = c.args in
-    let g = c.in-Header in
-    let p = past a.table.now g.tasks g.cores g.common (λ i. (c.type_inv.table i).fits) g.ensures in
-    short_workspace a.table.now a.cells a.out p.none (omega (arith, count_is p.lawful, c.if-cells-n.true))
+    let k = (goal.at.returns-then-cells-n c).In-Header in
+    short_workspace a.table.now a.cells a.out (none k) (omega (arith, count_is (lawful k), c.if-cells-n.true))
 
 pub returns-then-out-n : goal.returns-then-out-n
 returns-then-out-n c =
     let a = c.args in
-    let g = c.in-Header in
-    let p = past a.table.now g.tasks g.cores g.common (λ i. (c.type_inv.table i).fits) g.ensures in
-    short_output a.table.now a.cells a.out p.none (omega (arith, count_is p.lawful, c.if-cells-n.false))
-    (omega (arith, p.lawful.tasks, c.if-out-n.true))
+    let k = (goal.at.returns-then-out-n c).In-Header in
+    short_output a.table.now a.cells a.out (none k) (omega (arith, count_is (lawful k), c.if-cells-n.false))
+    (omega (arith, (lawful k).tasks, c.if-out-n.true))
 
 pub returns : goal.returns
 returns c =
     let a = c.args in
-    let g = c.in-Header in
-    let p = past a.table.now g.tasks g.cores g.common (λ i. (c.type_inv.table i).fits) g.ensures in
-    enough a.table.now a.cells a.out p.none (omega (arith, count_is p.lawful, c.if-cells-n.false))
-    (omega (arith, p.lawful.tasks, c.if-out-n.false)) p.same
+    let k = (goal.at.returns c).In-Header in
+    enough a.table.now a.cells a.out (none k) (omega (arith, count_is (lawful k), c.if-cells-n.false))
+    (omega (arith, (lawful k).tasks, c.if-out-n.false)) (answered (table_rows a.table.now) (header_said (header_block a.table.now)) (λ z. omega (arith, z)) c.in-Header.ensures)

@@ -1,4 +1,3 @@
--- The invariant of the loop over the tasks is `AtTask`; that of the search for the lowest mode: no mode before j keeps the cell's cost.
 use Prim.Native.Nat.{◌<◌}
 use native.Mathlib.Omega.{arith}
 use mathlib.Core.Path.{sym, ◌∙◌}

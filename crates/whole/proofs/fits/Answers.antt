@@ -1,4 +1,3 @@
--- The invariant: all fit exactly when the tasks left fit in the cores left.
 use native.Mathlib.Omega.{arith}
 use mathlib.Core.Path.{sym, ◌∙◌}
 use Rattle.choices.proofs.Tables.{block_meets}
