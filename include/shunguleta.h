@@ -6,21 +6,21 @@
  * is of. A pointer may be NULL where its length is 0. What no call can check: a pointer has to be good for its length, and a buffer that a
  * call writes to may overlap no other buffer of that call.
  *
- * The archive libshunguleta.a is for x86-64. It is 18,062 bytes long, 11,779 of them code and constants. It has no data of its own and
+ * The archive libshunguleta.a is for x86-64. It is 16,766 bytes long, 11,178 of them code and constants. It has no data of its own and
  * keeps nothing between calls, so every call is reentrant: from any thread, from a signal handler. It needs memcpy and memset, and nothing
  * else: no allocation, no file, no lock.
  *
  * Bytes of stack that each call takes over the largest table, measured, with the C library's memcpy and memset in it:
  *
- *   check           184
- *   ask_task        216
- *   ask_mode        264
- *   ask_choice      440
- *   portion        1280
- *   take            992
- *   plan_whole     1360
+ *   check           224
+ *   ask_task        256
+ *   ask_mode        320
+ *   ask_choice      416
+ *   portion        1232
+ *   take            848
+ *   plan_whole     1376
  *   write_header     72
- *   write_task      168
+ *   write_task      152
  */
 #ifndef SHUNGULETA_H
 #define SHUNGULETA_H

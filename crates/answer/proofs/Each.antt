@@ -5,12 +5,13 @@ use mathlib.Core.Path.{◌≡◌, refl, sym, ap, ◌∙◌}
 use mathlib.Core.List.{List, [], ◌∷◌, ◌++◌}
 use mathlib.Core.Bool.{Bool, true, false, ◌&&◌, ◌||◌}
 use mathlib.Core.Logic.{◌⊎◌, inl, inr, ⊎_elim}
-use lib.Dec.{T, eqb, ltb}
+use lib.Dec.{T, eqb}
 use lib.ListN.{length}
-use borrow.Author.Tests.{eqb-true, ltb-true}
-use Rattle.answer.specs.Said.{Said, refused}
+use borrow.Author.Tests.{eqb-true}
+use Rattle.answer.specs.Said.{Said, refused, number_of}
 use Rattle.answer.specs.Order.{Row, row, first, afterwards, Outcome, NoneGiven, is_one_of, OneOf}
 use Rattle.answer.proofs.Rows.{kind}
+use Rattle.answer.proofs.Reasons.{reason_of}
 use Rattle.answer.proofs.Outcomes.{goes}
 
 module _ (P : ℕ → ℕ → Type 0) where
@@ -80,24 +81,24 @@ module _ (P : ℕ → ℕ → Type 0) where
     pub some_long : (o : Some) → (NoneGiven A → length after ≡ length before) → length o.left ≡ length before
     some_long o long = ⊎_elim (λ same. ap length same) (λ new. ap length new.1 ∙ long new.0) o.kept
 
--- numbers of a list that are all below another
-abbrev pub all_below : ℕ → List ℕ → Bool
-all_below b [] = true
-all_below b (x ∷ xs) = ltb x b && all_below b xs
+-- each of these is the number of a reason
+abbrev pub all_known : List ℕ → Bool
+all_known [] = true
+all_known (x ∷ xs) = eqb (number_of (reason_of x)) x && all_known xs
 
-pub one_below : (b : ℕ) (xs : List ℕ) → T (all_below b xs) → (k : ℕ) → OneOf xs k → k < b
-one_below b [] all k one = absurd one
-one_below b (x ∷ xs) all k one = go (ltb x b) refl (eqb k x) refl all one (λ a o. one_below b xs a k o)
+pub one_known : (xs : List ℕ) → T (all_known xs) → (k : ℕ) → OneOf xs k → number_of (reason_of k) ≡ k
+one_known [] all k one = absurd one
+one_known (x ∷ xs) all k one = go (eqb (number_of (reason_of x)) x) refl (eqb k x) refl all one (λ a o. one_known xs a k o)
   where
-    go : (t : Bool) → ltb x b ≡ t → (e : Bool) → eqb k x ≡ e → T (t && all_below b xs) → T (e || is_one_of xs k)
-        → (T (all_below b xs) → OneOf xs k → k < b) → k < b
-    go true h true e a o ih = rw (eqb-true k x e) (ltb-true x b h)
+    go : (t : Bool) → eqb (number_of (reason_of x)) x ≡ t → (e : Bool) → eqb k x ≡ e → T (t && all_known xs) → T (e || is_one_of xs k)
+        → (T (all_known xs) → OneOf xs k → number_of (reason_of k) ≡ k) → number_of (reason_of k) ≡ k
+    go true h true e a o ih = rw (eqb-true k x e) (eqb-true _ x h)
     go true h false e a o ih = ih a o
     go false h e is a o ih = absurd a
 
--- a refusal fits its type: its number has 8 bits, and its place 32
+-- a refusal fits its type: its number is a reason's, and its place has 32 bits
 abbrev pub Fits : ℕ → ℕ → Type 0
-Fits k at = (k < 2 ^ 8) × (at < 2 ^ 32)
+Fits k at = (number_of (reason_of k) ≡ k) × (at < 2 ^ 32)
 
-pub fits_front : (xs : List ℕ) → T (all_below 256 xs) → (k : ℕ) → OneOf xs k → Fits k 0
-fits_front xs all k one = (one_below 256 xs all k one, omega arith)
+pub fits_front : (xs : List ℕ) → T (all_known xs) → (k : ℕ) → OneOf xs k → Fits k 0
+fits_front xs all k one = (one_known xs all k one, omega arith)

@@ -1,6 +1,9 @@
 pub mod Bools
 pub mod Rows
+pub mod Reasons
 pub mod Outcomes
 pub mod Each
+pub mod Held
 pub mod Elses
 pub mod Pair
+pub mod Settled

@@ -1,14 +1,17 @@
 -- Laws of the permitted modes. Assumes nothing.
-use Prim.Native.Nat.{ℕ, zero, suc, ◌+◌, ◌-◌, ◌/◌, ◌%◌, ◌^◌, ◌≤◌, ◌<◌}
-use native.Mathlib.Nat.{lt_of_lt_of_le, zero-add, eq-or-lt_of_le}
+use Prim.Native.Nat.{ℕ, zero, suc, ◌+◌, ◌*◌, ◌/◌, ◌%◌, ◌^◌, ◌≤◌, ◌<◌}
+use native.Mathlib.Nat.{lt_of_lt_of_le, zero-add, eq-or-lt_of_le, pow-succ', mod-eq_of_lt, div-div-eq-div-mul, mul_comm}
+use native.Mathlib.Numerals.{add-one}
 use native.Mathlib.Omega.{arith}
 use borrow.Author.Tests.{ne_eqb}
+use lib.Arith.{mod-mul}
 use lib.Bits.{bit_and, and_mask}
-use lib.Pow.{pow_mono, shr_lt}
+use lib.Pow.{pow_mono, pow_pos, shr_lt}
 use lib.Dec.{eqb}
 use mathlib.Core.Path.{◌≡◌, refl, sym, ap, subst}
-use mathlib.Core.Bool.{true, false, ◌||◌}
+use mathlib.Core.Bool.{true, false, not, not-not, ◌||◌}
 use mathlib.Core.Logic.{⊎_elim}
+use Rattle.std.proofs.lemmas.Bool.Decides.{nat_tests}
 use Rattle.answer.proofs.Bools.{clash, or_right, or_true, or_false}
 use Rattle.block.specs.Tests.{allows, any_allowed}
 
@@ -24,15 +27,6 @@ allows_none permitted j p q =
     let small : permitted < 2 ^ (0 + j) = rw zero-add (lt_of_lt_of_le p (pow_mono q)) in
     let none : permitted / 2 ^ j < 1 = shr_lt 0 j small in
     sym (ne_eqb (permitted / 2 ^ j % 2) 1 (λ e. omega arith))
-
-pub any_more : (permitted j to : ℕ) → j < to
-    → any_allowed permitted j (to - j) ≡ (allows permitted j || any_allowed permitted (j + 1) (to - (j + 1)))
-unfolding any_allowed
-any_more permitted j to p = let e : to - j ≡ suc (to - (j + 1)) = omega arith in ap (any_allowed permitted j) e
-
-pub any_end : (permitted j to : ℕ) → to ≤ j → any_allowed permitted j (to - j) ≡ false
-unfolding any_allowed
-any_end permitted j to p = let e : to - j ≡ 0 = omega arith in ap (any_allowed permitted j) e
 
 -- one is allowed: which
 pub record Allowed (permitted from to : ℕ) : Type 0 where
@@ -73,3 +67,31 @@ unfolding any_allowed
 any_are_not permitted j zero none = refl
 any_are_not permitted j (suc k) none =
     rw (none j (omega arith) (omega arith), any_are_not permitted (j + 1) k (λ i low high. none i (omega arith) (omega arith)))
+
+-- of k modes from j on one is allowed where the bits of those are not all 0
+any_bits : (permitted j k : ℕ) → any_allowed permitted j k ≡ not (eqb (permitted / 2 ^ j % 2 ^ k) 0)
+unfolding any_allowed allows
+any_bits permitted j zero =
+    let none : permitted / 2 ^ j % 1 ≡ 0 = omega arith in
+    rw none
+any_bits permitted j (suc k) =
+    let q = permitted / 2 ^ j in
+    let r = q / 2 % 2 ^ k in
+    let half : permitted / 2 ^ (j + 1) ≡ q / 2 = rw (add-one, pow-succ' 2 j, mul_comm) (sym (div-div-eq-div-mul permitted (2 ^ j) 2)) in
+    let low : q % 2 ^ suc k ≡ r * 2 + q % 2 = rw (pow-succ' 2 k, mul_comm) (mod-mul q (pow_pos k) (omega arith)) in
+    rw (any_bits permitted (j + 1) k, half, low) (one_more (q % 2) r (omega arith))
+  where
+    one_more : (b r : ℕ) → b < 2 → (eqb b 1 || not (eqb r 0)) ≡ not (eqb (r * 2 + b) 0)
+    one_more b r h = grind (arith, nat_tests)
+
+-- in a mask with no bit at or beyond j + k: where any bit is set from j on
+pub any_from : (permitted j k : ℕ) → permitted < 2 ^ (k + j) → any_allowed permitted j k ≡ not (eqb (permitted / 2 ^ j) 0)
+any_from permitted j k h =
+    let all : permitted / 2 ^ j % 2 ^ k ≡ permitted / 2 ^ j = mod-eq_of_lt (shr_lt k j h) in
+    rw (any_bits permitted j k, all)
+
+-- in any mask: where none is set
+pub none_zero : (permitted : ℕ) → permitted < 2 ^ 16 → not (any_allowed permitted 0 16) ≡ eqb permitted 0
+none_zero permitted h =
+    let all : permitted / 2 ^ 0 ≡ permitted = omega arith in
+    rw (any_from permitted 0 16 h, all, not-not)

@@ -3,7 +3,7 @@ use Rattle.std.specs.Prelude.{ℕ, zero, suc, ◌+◌, ◌-◌, ◌*◌, ◌/◌
 use Rattle.answer.specs.Order.{Row, row}
 use Rattle.model.specs.Limits.{most_tasks, most_cores}
 use Rattle.model.specs.Rules.{meets}
-use Rattle.block.specs.Layout.{Figures}
+use Rattle.model.specs.declared.Figures.{Figures}
 
 abbrev pub outside : ℕ → ℕ → ℕ → Bool
 outside low high x = ltb x low || ltb high x

@@ -2,162 +2,199 @@
 // requires anything: a block is whatever slice is lent, and past its end 0 is read.
 #![tactic(auto)]
 
-ghost use Rattle.std.specs.Prelude.{◌≡◌, ◌-◌, min, length};
+ghost use Rattle.std.specs.Prelude.{◌≡◌, ℕ};
 ghost use Rattle.block.specs.Bytes.{number, check_of, zeros};
+ghost use Rattle.block.specs.Layout.{figures_in};
 ghost use Rattle.block.specs.Tests.{
-  outside,
   wrong_common,
   wrong_limits,
   wrong_shape,
   allows,
-  any_allowed,
   wrong_permitted,
   wrong_period,
   wrong_work,
 };
 
-use model::{MOST_CORES, MOST_TASKS};
+use model::{Figures, MOST_CORES, MOST_MODES, MOST_TASKS};
 
-// The number of 8 bits at an offset.
-pub fn get8(block: &[u8], at: usize) -> u8
-    ensures { result ≡ number 1 at block.now }
-{
-    if at < block.len() { block[at] } else { 0 }
+// A number of a block, least significant byte first. A wider one is two of half its width, each of which may lie past the end; an array
+// of bytes for `from_le_bytes` would be no plainer.
+pub trait Number: Sized {
+    // How many bytes it has.
+    ghost width: { ℕ };
+
+    ghost value: { Self → ℕ };
+
+    // The number at an offset, whatever the offset.
+    fn get(block: &[u8], at: usize) -> Self
+        ensures { value result ≡ number width at block.now };
 }
 
-// The number of 16 bits at an offset.
-pub fn get16(block: &[u8], at: u16) -> u16
-    ensures { result ≡ number 2 at block.now }
-{
-    let from = at as usize;
-    let b0 = get8(block, from);
-    let b1 = get8(block, from + 1);
-    (b0 as u16) + 256 * (b1 as u16)
+impl Number for u8 {
+    ghost width = { 1 };
+
+    ghost value = { λ x. x };
+
+    fn get(block: &[u8], at: usize) -> u8 {
+        block.get(at).copied().unwrap_or(0)
+    }
 }
 
-// The number of 32 bits at an offset.
-pub fn get32(block: &[u8], at: u16) -> u32
-    ensures { result ≡ number 4 at block.now }
-{
-    let from = at as usize;
-    let b0 = get8(block, from);
-    let b1 = get8(block, from + 1);
-    let b2 = get8(block, from + 2);
-    let b3 = get8(block, from + 3);
-    (b0 as u32) + 256 * (b1 as u32) + 65536 * (b2 as u32) + 16777216 * (b3 as u32)
+impl Number for u16 {
+    ghost width = { 2 };
+
+    ghost value = { λ x. x };
+
+    fn get(block: &[u8], at: usize) -> u16 {
+        let low = u8::get(block, at);
+        // no slice is so long that a byte stands at the highest offset
+        let high = u8::get(block, at.saturating_add(1));
+        low as u16 + 256 * high as u16
+    }
 }
 
-// How far the bytes before an offset go: up to it, or to the end of a block that ends before. The two long loops below go so far and
-// need not ask of each byte whether it is there: most of the time that checking a table takes is theirs.
-fn end_of(block: &[u8], to: usize) -> usize
-    ensures { result ≡ min to (length block.now) }
-{
-    if block.len() < to { block.len() } else { to }
+impl Number for u32 {
+    ghost width = { 4 };
+
+    ghost value = { λ x. x };
+
+    fn get(block: &[u8], at: usize) -> u32 {
+        let low = u16::get(block, at);
+        let high = u16::get(block, at.saturating_add(2));
+        low as u32 + 65536 * high as u32
+    }
 }
 
-// The check of a block: the sum of (offset + 1) times the byte, over offsets 0 to 507.
+// The check of a block: the sum of (offset + 1) times the byte, over offsets 0 to 507. Most of the time that checking a table takes is
+// this loop's and that of `is_zero`: neither asks of each byte whether it is there, or stops before the end.
 pub fn check_of(block: &[u8]) -> u32
     ensures { result ≡ check_of block.now }
 {
-    let end = end_of(block, 508);
+    let end = block.len().min(508);
     let mut sum: u32 = 0;
-    let mut i = 0;
-    while i < end {
+    for (i, &byte) in block[..end].iter().enumerate() {
         // no wider than it has to be: more of them are multiplied at a time
         let weight = i as u16 + 1;
-        sum += (weight as u32) * (block[i] as u32);
-        i += 1;
+        sum += weight as u32 * byte as u32;
     }
     sum
 }
 
-// Whether the bytes from one offset up to another are zero.
-pub fn is_zero(block: &[u8], from: u16, to: u16) -> bool
+// Whether the bytes from one offset up to another are zero. The document's rows name the two offsets; a range of them is no plainer.
+pub fn is_zero(block: &[u8], from: usize, to: usize) -> bool
     ensures { result ≡ zeros from to block.now }
 {
-    let end = end_of(block, to as usize);
-    let mut seen: u8 = 0;
-    let mut at = from as usize;
-    while at < end {
-        seen |= block[at];
-        at += 1;
-    }
-    seen == 0
+    let end = block.len().min(to);
+    let start = end.min(from);
+    block[start..end].iter().fold(0, |seen, byte| seen | byte) == 0
 }
 
-fn is_outside(low: u32, high: u32, x: u32) -> bool
-    ensures { result ≡ outside low high x }
-{
-    (x < low) | (high < x)
+// The numbers of a header block: how many tasks and cores, and the common period.
+#[derive(Clone, Copy, Debug, PartialEq, Eq)]
+pub struct Header {
+    pub tasks: u16,
+    pub cores: u16,
+    pub common: u32,
+}
+
+impl Header {
+    ghost use Rattle.block.specs.Layout.{header_in};
+
+    // As they stand there, with no test.
+    pub fn read(block: &[u8]) -> Header
+        ensures { result ≡ header_in block.now }
+    {
+        Header {
+            tasks: u16::get(block, 2),
+            cores: u16::get(block, 4),
+            common: u32::get(block, 8),
+        }
+    }
+
+    // Whether the tasks, the cores or the common period are beyond their limits.
+    pub fn wrong_limits(self) -> bool
+        ensures { result ≡ wrong_limits self.tasks self.cores self.common }
+    {
+        !(1..=MOST_TASKS).contains(&(self.tasks as usize))
+            | !(1..=MOST_CORES).contains(&(self.cores as usize))
+            | wrong_common(self.common)
+    }
 }
 
 // Whether the common period is beyond its limits.
 pub fn wrong_common(common: u32) -> bool
     ensures { result ≡ wrong_common common }
 {
-    is_outside(1, 100000, common)
+    !(1..=100000).contains(&common)
 }
 
-// Whether the tasks, the cores or the common period are beyond their limits.
-pub fn wrong_limits(tasks: u16, cores: u16, common: u32) -> bool
-    ensures { result ≡ wrong_limits tasks cores common }
-{
-    is_outside(1, MOST_TASKS as u32, tasks as u32)
-        | is_outside(1, MOST_CORES as u32, cores as u32)
-        | wrong_common(common)
+// The numbers of a task block: the elasticity, how many modes it has, and which of them are permitted, as a mask.
+#[derive(Clone, Copy, Debug, PartialEq, Eq)]
+pub struct Task {
+    pub elasticity: u8,
+    pub modes: u8,
+    pub permitted: u16,
 }
 
-// Whether the elasticity or the mode count is beyond its limits.
-pub fn wrong_shape(elasticity: u8, modes: u8) -> bool
-    ensures { result ≡ wrong_shape elasticity modes }
-{
-    is_outside(1, 10, elasticity as u32) | is_outside(1, 16, modes as u32)
-}
+impl Task {
+    ghost use Rattle.block.specs.Layout.{task_in};
 
-// Whether mode j is permitted: bit j of the mask. There is no mode 16.
-pub fn permits(permitted: u16, j: u8) -> bool
-    ensures { result ≡ allows permitted j }
-{
-    if 16 <= j {
-        return false;
-    }
-    (permitted >> j) & 1 == 1
-}
-
-// Whether one of the modes from one number up to another is permitted.
-fn any_permitted(permitted: u16, from: u8, to: u8) -> bool
-    ensures { result ≡ any_allowed permitted from (to - from) }
-{
-    let mut j = from;
-    while j < to {
-        if permits(permitted, j) {
-            return true;
+    // As they stand there, with no test.
+    pub fn read(block: &[u8]) -> Task
+        ensures { result ≡ task_in block.now }
+    {
+        Task {
+            elasticity: u8::get(block, 1),
+            modes: u8::get(block, 2),
+            permitted: u16::get(block, 4),
         }
-        j += 1;
     }
-    false
+
+    // Whether the elasticity or the mode count is beyond its limits.
+    pub fn wrong_shape(self) -> bool
+        ensures { result ≡ wrong_shape self.elasticity self.modes }
+    {
+        !(1..=10).contains(&self.elasticity) | !(1..=MOST_MODES).contains(&(self.modes as usize))
+    }
+
+    // Whether mode j is permitted: bit j of the mask. There is no mode 16.
+    pub fn permits(self, j: u8) -> bool
+        ensures { result ≡ allows self.permitted j }
+    {
+        j < 16 && (self.permitted >> j) & 1 == 1
+    }
+
+    // Whether no mode is permitted, or one at or beyond the count. The mask has no bit from 16 on.
+    pub fn wrong_permitted(self) -> bool
+        ensures { result ≡ wrong_permitted self.permitted self.modes }
+    {
+        self.permitted == 0 || (self.modes < 16 && self.permitted >> self.modes != 0)
+    }
 }
 
-// Whether no mode is permitted, or one at or beyond the count.
-pub fn wrong_permitted(permitted: u16, modes: u8) -> bool
-    ensures { result ≡ wrong_permitted permitted modes }
+// The figures of a mode of a task block, as they stand there.
+pub fn figures_at(block: &[u8], mode: u8) -> Figures
+    ensures { result ≡ figures_in block.now mode }
 {
-    !any_permitted(permitted, 0, 16) | any_permitted(permitted, modes, 16)
+    let from = 12 * usize::from(mode);
+    Figures {
+        work: u32::get(block, 8 + from),
+        span: u32::get(block, 12 + from),
+        period: u32::get(block, 16 + from),
+    }
 }
 
 // Whether a mode's period is zero or does not divide the common period.
 pub fn wrong_period(common: u32, period: u32) -> bool
     ensures { result ≡ wrong_period common period }
 {
-    if period == 0 {
-        return true;
-    }
-    common % period != 0
+    period == 0 || common % period != 0
 }
 
 // Whether work or span is zero, the span above the work, or the work above 64 periods.
-pub fn wrong_work(work: u32, span: u32, period: u32) -> bool
-    ensures { result ≡ wrong_work work span period }
+pub fn wrong_work(figures: Figures) -> bool
+    ensures { result ≡ wrong_work figures.work figures.span figures.period }
 {
-    (work == 0) | (span == 0) | (work < span) | (64 * (period as u64) < work as u64)
+    let Figures { work, span, period } = figures;
+    (work == 0) | (span == 0) | (work < span) | (64 * u64::from(period) < u64::from(work))
 }

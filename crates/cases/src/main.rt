@@ -14,19 +14,16 @@
 // Every cell of a fresh workspace holds 77, and every byte of the output 170 before the call.
 #![tactic(auto)]
 
-ghost use Rattle.std.specs.Prelude.{◌<◌, ◌≤◌, length, IfOk};
-
-use block::{get8, get16, get32};
 use shunguleta::{
     Reply, shunguleta_ask_choice, shunguleta_ask_mode, shunguleta_ask_task, shunguleta_check,
     shunguleta_plan_whole, shunguleta_portion, shunguleta_take, shunguleta_write_header,
     shunguleta_write_task,
 };
 use std::fs::File;
-use std::io;
 use std::io::Read;
+use std::{fmt, io};
 
-// The most that a call is lent: bytes of a table, cells, bytes of output, figures. And its head with the longest name.
+// The most that a call is lent: bytes of a table, cells, bytes of output, figures. And the letters of the longest name.
 const TABLE: usize = 17408;
 
 const CELLS: usize = 2200;
@@ -35,348 +32,357 @@ const OUT: usize = 600;
 
 const FIGURES: usize = 60;
 
-const HEAD: usize = 128;
+const NAME: usize = 96;
 
-// A place beyond every buffer.
-const NOWHERE: usize = 65536;
-
-// What differs from the base or the workspace: where, and what stands there.
-#[derive(Drop)]
-struct Entry {
-    at: usize,
-    value: u64,
+// Why the run ends: there is no further record, it is cut or unlawful, or its line cannot be printed.
+#[derive(Debug, Drop)]
+enum Stop {
+    NoRecord,
+    BadRecord,
+    NoOutput(io::Error),
 }
 
-fn word(rt: &impl Print, text: &[u8]) -> io::Result<()> {
-    rt.write_all(text)
-}
-
-fn number(rt: &impl Print, x: u64) -> io::Result<()> {
-    rt.print(x)
-}
-
-fn letter(rt: &impl Print, x: u8) -> io::Result<()> {
-    word(rt, &[x])
-}
-
-fn count_at(head: &[u8], at: u16) -> usize {
-    get16(head, at) as usize
-}
-
-// Reads the bytes from one place up to another; whether there are such places, and so many bytes left in the file.
-fn fetch(file: &mut File, bytes: &mut [u8], from: usize, to: usize) -> bool {
-    if from <= to && to <= bytes.len() {
-        file.read_exact(&mut bytes[from..to]).is_ok()
-    } else {
-        false
+impl From<io::Error> for Stop {
+    fn from(error: io::Error) -> Stop {
+        Stop::NoOutput(error)
     }
 }
 
-// The base of the tables that follow: its bytes, and 0 past them.
-fn fetch_base(file: &mut File, base: &mut [u8; TABLE]) -> bool {
-    let mut size = [0u8; 2];
-    *base = [0u8; TABLE];
-    fetch(file, &mut size, 0, 2) && fetch(file, base, 0, count_at(&size, 0))
+// What a record is.
+#[derive(Clone, Copy, Debug, PartialEq, Eq)]
+enum Kind {
+    Base,
+    Call(Call),
 }
 
-// The rest of a call's head, and its name.
-fn fetch_head(file: &mut File, head: &mut [u8; HEAD]) -> bool {
-    let whole = fetch(file, head, 1, 32);
-    let letters = get8(head, 28) as usize;
-    whole && fetch(file, head, 32, 32 + letters)
+#[derive(Clone, Copy, Debug, PartialEq, Eq)]
+enum Call {
+    Check,
+    AskTask,
+    AskMode,
+    AskChoice,
+    Portion,
+    Take,
+    WriteHeader,
+    WriteTask,
+    PlanWhole,
 }
 
-// One entry of so many bytes, two of them for the place. Where the file ends, an entry for no place.
-fn fetch_entry(file: &mut File, size: usize) -> Entry {
-    let mut bytes = [0u8; 10];
-    let whole = fetch(file, &mut bytes, 0, size);
-    let low = get32(&bytes, 2) as u64;
-    let high = get32(&bytes, 6) as u64;
-    Entry {
-        at: if whole { count_at(&bytes, 0) } else { NOWHERE },
-        value: low + 4294967296 * high,
-    }
-}
+impl TryFrom<u8> for Kind {
+    type Error = Stop;
 
-fn patch_table(file: &mut File, count: usize, table: &mut [u8; TABLE]) -> bool {
-    let mut left = count;
-    while 0 < left {
-        let entry = fetch_entry(file, 3);
-        let at = entry.at;
-        if TABLE <= at {
-            return false;
+    fn try_from(byte: u8) -> Result<Kind, Stop> {
+        match byte {
+            0 => Ok(Kind::Base),
+            1 => Ok(Kind::Call(Call::Check)),
+            2 => Ok(Kind::Call(Call::AskTask)),
+            3 => Ok(Kind::Call(Call::AskMode)),
+            4 => Ok(Kind::Call(Call::AskChoice)),
+            5 => Ok(Kind::Call(Call::Portion)),
+            6 => Ok(Kind::Call(Call::Take)),
+            7 => Ok(Kind::Call(Call::WriteHeader)),
+            8 => Ok(Kind::Call(Call::WriteTask)),
+            9 => Ok(Kind::Call(Call::PlanWhole)),
+            _ => Err(Stop::BadRecord),
         }
-        table[at] = (entry.value % 256) as u8;
-        left -= 1;
-    }
-    true
-}
-
-fn patch_cells(file: &mut File, count: usize, cells: &mut [u64; CELLS]) -> bool {
-    let mut left = count;
-    while 0 < left {
-        let entry = fetch_entry(file, 10);
-        let at = entry.at;
-        if CELLS <= at {
-            return false;
-        }
-        cells[at] = entry.value;
-        left -= 1;
-    }
-    true
-}
-
-fn fetch_figures(file: &mut File, count: u16, figures: &mut [u32; FIGURES]) -> bool {
-    let mut bytes = [0u8; 240];
-    let whole = fetch(file, &mut bytes, 0, 4 * count as usize);
-    let mut at = 0;
-    while at < FIGURES {
-        figures[at] = get32(&bytes, 4 * at as u16);
-        at += 1;
-    }
-    whole
-}
-
-// The call itself, by its kind, with the arguments of its head.
-fn call(head: &[u8], table: &[u8], cells: &mut [u64], figures: &[u32], out: &mut [u8]) -> Reply {
-    let kind = get8(head, 0);
-    let a = get32(head, 8);
-    let b = get32(head, 12);
-    let c = get32(head, 16);
-    match kind {
-        1 => shunguleta_check(table),
-        2 => shunguleta_ask_task(table, a),
-        3 => shunguleta_ask_mode(table, a, b),
-        4 => shunguleta_ask_choice(table, a, b),
-        5 => shunguleta_portion(table, cells, a, b),
-        6 => shunguleta_take(table, cells, a, out),
-        7 => shunguleta_write_header(get16(head, 8), get16(head, 12), c, out),
-        8 => shunguleta_write_task(
-            a,
-            get16(head, 12),
-            get8(head, 20),
-            get8(head, 21),
-            get16(head, 16),
-            figures,
-            out,
-        ),
-        _ => shunguleta_plan_whole(table, cells, out),
     }
 }
 
-fn show_reply(rt: &impl Print, reply: Reply) -> io::Result<()> {
-    if reply.number == 0 {
-        let values = reply.values;
-        word(rt, b": given ")?;
-        number(rt, values[0])?;
-        letter(rt, b' ')?;
-        number(rt, values[1])?;
-        letter(rt, b' ')?;
-        number(rt, values[2])
-    } else {
-        word(rt, b": refused ")?;
-        number(rt, reply.number as u64)?;
-        word(rt, b" at ")?;
-        number(rt, reply.at as u64)
-    }
-}
-
-// A value, and how often where it stands more than once in a row.
-fn show_times(rt: &impl Print, value: u64, count: usize) -> io::Result<()> {
-    number(rt, value)?;
-    if 1 < count {
-        letter(rt, b'*')?;
-        number(rt, count as u64)?;
-    }
-    Ok(())
-}
-
-// Shows the run of equal numbers between two places, unless it goes on; answers where the run begins that is still to be shown.
-fn show_run(rt: &impl Print, numbers: &[u64], from: usize, to: usize) -> io::Result<usize>
-    requires from_lt_to { from < to }
-    requires to_in_bounds { to ≤ length numbers.now }
-    ensures { IfOk result (λ next. next ≤ to) }
-{
-    let value = numbers[from];
-    if to < numbers.len() && numbers[to] == value {
-        Ok(from)
-    } else {
-        if 0 < from {
-            letter(rt, b' ')?;
-        }
-        show_times(rt, value, to - from)?;
-        Ok(to)
-    }
-}
-
-fn show_numbers(rt: &impl Print, numbers: &[u64]) -> io::Result<()> {
-    if numbers.len() == 0 {
-        word(rt, b"none")?;
-    }
-    let mut from = 0;
-    let mut to = 0;
-    while to < numbers.len() {
-        to += 1;
-        from = show_run(rt, numbers, from, to)?;
-    }
-    Ok(())
-}
-
-// The bytes as numbers, and 0 past them.
-fn widen(bytes: &[u8], numbers: &mut [u64]) {
-    let mut at = 0;
-    while at < numbers.len() {
-        numbers[at] = get8(bytes, at) as u64;
-        at += 1;
-    }
-}
-
-fn show_out(rt: &impl Print, out: &[u8]) -> io::Result<()> {
-    let mut numbers = [0u64; OUT];
-    let count = out.len();
-    widen(out, &mut numbers);
-    word(rt, b" out ")?;
-    // no output is longer
-    if count <= OUT {
-        show_numbers(rt, &numbers[0..count])?;
-    }
-    Ok(())
-}
-
-fn show_name(rt: &impl Print, head: &[u8]) -> io::Result<()> {
-    let end = 32 + get8(head, 28) as usize;
-    if end <= head.len() {
-        word(rt, &head[32..end])?;
-    }
-    Ok(())
-}
-
-// Makes the call over what is lent to it, and shows its answer and what it may have written.
-fn show_call(
-    rt: &impl Print,
-    head: &[u8],
-    table: &[u8],
-    cells: &mut [u64],
-    figures: &[u32],
-    out: &mut [u8],
-) -> io::Result<()> {
-    let kind = get8(head, 0);
-    show_name(rt, head)?;
-    show_reply(rt, call(head, table, cells, figures, out))?;
-    // take, the writers and the whole plan may write to the output, a portion and the whole plan to the workspace
-    if (6 <= kind) & (kind <= 9) {
-        show_out(rt, out)?;
-    }
-    if (kind == 5) | (kind == 9) {
-        word(rt, b" cells ")?;
-        show_numbers(rt, cells)?;
-    }
-    letter(rt, b'\n')
-}
-
-// Lends the call as much of each buffer as its head says; whether there is so much.
-fn lend(
-    rt: &impl Print,
-    head: &[u8],
-    table: &[u8],
-    cells: &mut [u64],
-    figures: &[u32],
-) -> io::Result<bool> {
-    let mut out = [170u8; OUT];
-    let bytes = count_at(head, 2);
-    let count = count_at(head, 4);
-    let room = count_at(head, 6);
-    let listed = count_at(head, 26);
-    if bytes <= table.len() && count <= cells.len() && listed <= figures.len() && room <= OUT {
-        show_call(
-            rt,
-            head,
-            &table[0..bytes],
-            &mut cells[0..count],
-            &figures[0..listed],
-            &mut out[0..room],
-        )?;
-        Ok(true)
-    } else {
-        Ok(false)
-    }
-}
-
-// A fresh workspace, where the head asks for it; whether the head is lawful there.
-fn fresh(head: &[u8], cells: &mut [u64; CELLS]) -> bool {
-    let workspace = get8(head, 1);
-    if workspace == 0 {
-        *cells = [77u64; CELLS];
-    }
-    workspace <= 1
-}
-
-// Reads what stands after the name, and makes the call.
-fn complete(
-    rt: &impl Print,
-    file: &mut File,
-    head: &[u8],
-    table: &mut [u8; TABLE],
-    cells: &mut [u64; CELLS],
-    figures: &mut [u32; FIGURES],
-) -> io::Result<bool> {
-    Ok(
-        patch_table(file, count_at(head, 22), table)
-            && patch_cells(file, count_at(head, 24), cells)
-            && fetch_figures(file, get16(head, 26), figures)
-            && lend(rt, head, table, cells, figures)?,
-    )
-}
-
-// One record, by the kind that its head begins with; whether it is whole and lawful.
-fn record(
-    rt: &impl Print,
-    file: &mut File,
-    head: &mut [u8; HEAD],
-    base: &mut [u8; TABLE],
-    cells: &mut [u64; CELLS],
-) -> io::Result<bool> {
-    let mut table = *base;
-    let mut figures = [0u32; FIGURES];
-    if head[0] == 0 {
-        Ok(fetch_base(file, base))
-    } else {
-        Ok(
-            head[0] <= 9
-                && fetch_head(file, head)
-                && fresh(head, cells)
-                && complete(rt, file, head, &mut table, cells, &mut figures)?,
+impl Call {
+    fn may_write_output(self) -> bool {
+        matches!(
+            self,
+            Call::Take | Call::WriteHeader | Call::WriteTask | Call::PlanWhole
         )
     }
+
+    fn may_write_cells(self) -> bool {
+        matches!(self, Call::Portion | Call::PlanWhole)
+    }
 }
 
-// The next record, and whether there may be another.
-fn next(
-    rt: &impl Print,
-    file: &mut File,
-    base: &mut [u8; TABLE],
-    cells: &mut [u64; CELLS],
-) -> io::Result<bool> {
-    let mut head = [0u8; HEAD];
-    if fetch(file, &mut head, 0, 1) {
-        let whole = record(rt, file, &mut head, base, cells)?;
-        if !whole {
-            word(rt, b"bad record\n")?;
+#[derive(Clone, Copy, Debug, PartialEq, Eq)]
+enum Workspace {
+    Fresh,
+    AsLeft,
+}
+
+impl TryFrom<u8> for Workspace {
+    type Error = Stop;
+
+    fn try_from(byte: u8) -> Result<Workspace, Stop> {
+        match byte {
+            0 => Ok(Workspace::Fresh),
+            1 => Ok(Workspace::AsLeft),
+            _ => Err(Stop::BadRecord),
         }
-        Ok(whole)
-    } else {
-        Ok(false)
+    }
+}
+
+// The file's next bytes, so many of them, at the start of a buffer that may have too little room.
+fn fill<'a>(file: &mut File, room: &'a mut [u8], count: usize) -> Result<&'a [u8], Stop> {
+    let bytes = room.get_mut(..count).ok_or(Stop::BadRecord)?;
+    file.read_exact(bytes).map_err(|_| Stop::BadRecord)?;
+    Ok(bytes)
+}
+
+fn fetch<const N: usize>(file: &mut File) -> Result<[u8; N], Stop> {
+    let mut bytes = [0u8; N];
+    fill(file, &mut bytes, N)?;
+    Ok(bytes)
+}
+
+// One reader for each width: a bound `Fn([u8; N]) -> T` for one generic reader gets no proof, and four impls of a trait are no plainer.
+fn fetch_byte(file: &mut File) -> Result<u8, Stop> {
+    Ok(u8::from_le_bytes(fetch(file)?))
+}
+
+fn fetch_count(file: &mut File) -> Result<usize, Stop> {
+    Ok(usize::from(u16::from_le_bytes(fetch(file)?)))
+}
+
+fn fetch_number(file: &mut File) -> Result<u32, Stop> {
+    Ok(u32::from_le_bytes(fetch(file)?))
+}
+
+fn fetch_cell(file: &mut File) -> Result<u64, Stop> {
+    Ok(u64::from_le_bytes(fetch(file)?))
+}
+
+// What differs from the base or the workspace: so many times a place, and what stands there.
+fn patch<T: Copy, F: Fn(&mut File) -> Result<T, Stop>>(
+    file: &mut File,
+    count: usize,
+    places: &mut [T],
+    fetch_value: F,
+) -> Result<(), Stop>
+    requires { F.IsAlwaysCallable fetch_value }
+{
+    for _ in 0..count {
+        let at = fetch_count(file)?;
+        let place = places.get_mut(at).ok_or(Stop::BadRecord)?;
+        *place = fetch_value(file)?;
+    }
+    Ok(())
+}
+
+// The head of a call.
+#[derive(Clone, Copy, Debug)]
+struct Head {
+    call: Call,
+    workspace: Workspace,
+    lent_bytes: usize,
+    lent_cells: usize,
+    lent_out: usize,
+    numbers: [u32; 3],
+    elasticity: u8,
+    modes: u8,
+    other_bytes: usize,
+    other_cells: usize,
+    figures: usize,
+    letters: u8,
+}
+
+impl Head {
+    // What follows the kind.
+    fn fetch(file: &mut File, call: Call) -> Result<Head, Stop> {
+        Ok(Head {
+            call,
+            workspace: Workspace::try_from(fetch_byte(file)?)?,
+            lent_bytes: fetch_count(file)?,
+            lent_cells: fetch_count(file)?,
+            lent_out: fetch_count(file)?,
+            numbers: [
+                fetch_number(file)?,
+                fetch_number(file)?,
+                fetch_number(file)?,
+            ],
+            elasticity: fetch_byte(file)?,
+            modes: fetch_byte(file)?,
+            other_bytes: fetch_count(file)?,
+            other_cells: fetch_count(file)?,
+            figures: fetch_count(file)?,
+            // with the three bytes after them
+            letters: fetch::<4>(file)?[0],
+        })
+    }
+}
+
+// What a call is lent.
+#[derive(Drop)]
+struct Lent<'a> {
+    table: &'a [u8],
+    cells: &'a mut [u64],
+    figures: &'a [u32],
+    out: &'a mut [u8],
+}
+
+// A number for a parameter of 16 bits.
+fn short(number: u32) -> u16 {
+    (number & 0xffff) as u16
+}
+
+impl Lent<'_> {
+    // The call itself, with the arguments of its head.
+    fn make(&mut self, head: &Head) -> Reply {
+        let Lent { table, figures, .. } = *self;
+        let cells = &mut *self.cells;
+        let out = &mut *self.out;
+        let [a, b, c] = head.numbers;
+        match head.call {
+            Call::Check => shunguleta_check(table),
+            Call::AskTask => shunguleta_ask_task(table, a),
+            Call::AskMode => shunguleta_ask_mode(table, a, b),
+            Call::AskChoice => shunguleta_ask_choice(table, a, b),
+            Call::Portion => shunguleta_portion(table, cells, a, b),
+            Call::Take => shunguleta_take(table, cells, a, out),
+            Call::WriteHeader => shunguleta_write_header(short(a), short(b), c, out),
+            Call::WriteTask => shunguleta_write_task(
+                a,
+                short(b),
+                head.elasticity,
+                head.modes,
+                short(c),
+                figures,
+                out,
+            ),
+            Call::PlanWhole => shunguleta_plan_whole(table, cells, out),
+        }
+    }
+}
+
+// An answer as its line has it.
+#[derive(Clone, Copy)]
+struct Answer(Reply);
+
+impl fmt::Display for Answer {
+    fn fmt<W: fmt::Write>(&self, f: &mut fmt::Formatter<W>) -> fmt::Result {
+        match &self.0 {
+            Reply {
+                number: 0,
+                values: [first, second, third],
+                ..
+            } => write!(f, "given {first} {second} {third}"),
+            Reply { number, at, .. } => write!(f, "refused {number} at {at}"),
+        }
+    }
+}
+
+// Numbers, with how often where one stands more than once in a row.
+#[derive(Clone, Copy)]
+struct Runs<'a, T>(&'a [T]);
+
+impl<T: fmt::Display + PartialEq> fmt::Display for Runs<'_, T> {
+    fn fmt<W: fmt::Write>(&self, f: &mut fmt::Formatter<W>) -> fmt::Result {
+        if self.0.is_empty() {
+            return write!(f, "none");
+        }
+        for (at, run) in self.0.chunk_by(|a, b| a == b).enumerate() {
+            if 0 < at {
+                write!(f, " ")?;
+            }
+            match run {
+                [] => {}
+                [value] => write!(f, "{value}")?,
+                [value, ..] => write!(f, "{value}*{}", run.len())?,
+            }
+        }
+        Ok(())
+    }
+}
+
+// A call's line: its answer, and what it may have written.
+fn show(
+    rt: &impl Print,
+    name: &[u8],
+    call: Call,
+    answer: Answer,
+    lent: &Lent<'_>,
+) -> io::Result<()> {
+    rt.write_all(name)?;
+    print!(rt; ": {answer}")?;
+    if call.may_write_output() {
+        print!(rt; " out {}", Runs(lent.out))?;
+    }
+    if call.may_write_cells() {
+        print!(rt; " cells {}", Runs(lent.cells))?;
+    }
+    println!(rt)
+}
+
+// What lasts from one record to the next.
+#[derive(Drop)]
+struct Stored {
+    file: File,
+    base: [u8; TABLE],
+    cells: [u64; CELLS],
+}
+
+impl Stored {
+    // The base of the tables that follow: its bytes, and 0 past them.
+    fn fetch_base(&mut self) -> Result<(), Stop> {
+        let length = fetch_count(&mut self.file)?;
+        self.base = [0; TABLE];
+        fill(&mut self.file, &mut self.base, length)?;
+        Ok(())
+    }
+
+    // Makes a call, and shows its answer and what it may have written.
+    fn make(&mut self, rt: &impl Print, call: Call) -> Result<(), Stop> {
+        let file = &mut self.file;
+        let head = Head::fetch(file, call)?;
+        let mut letters = [0u8; NAME];
+        let name = fill(file, &mut letters, usize::from(head.letters))?;
+        if head.workspace == Workspace::Fresh {
+            self.cells = [77; CELLS];
+        }
+        let mut table = self.base;
+        patch(file, head.other_bytes, &mut table, fetch_byte)?;
+        patch(file, head.other_cells, &mut self.cells, fetch_cell)?;
+        let mut figures = [0u32; FIGURES];
+        let figures = figures.get_mut(..head.figures).ok_or(Stop::BadRecord)?;
+        for figure in figures.iter_mut() {
+            *figure = fetch_number(file)?;
+        }
+        let mut out = [170u8; OUT];
+        let mut lent = Lent {
+            table: table.get(..head.lent_bytes).ok_or(Stop::BadRecord)?,
+            cells: self
+                .cells
+                .get_mut(..head.lent_cells)
+                .ok_or(Stop::BadRecord)?,
+            figures,
+            out: out.get_mut(..head.lent_out).ok_or(Stop::BadRecord)?,
+        };
+        let answer = Answer(lent.make(&head));
+        show(rt, name, call, answer, &lent)?;
+        Ok(())
+    }
+
+    // The next record, by the kind that it begins with.
+    fn record(&mut self, rt: &impl Print) -> Result<(), Stop> {
+        let kind = fetch_byte(&mut self.file).map_err(|_| Stop::NoRecord)?;
+        match Kind::try_from(kind)? {
+            Kind::Base => self.fetch_base(),
+            Kind::Call(call) => self.make(rt, call),
+        }
     }
 }
 
 fn main(rt: HostRuntime) -> io::Result<()> {
-    let mut file = File::open(&rt, "calls")?;
-    let mut base = [0u8; TABLE];
-    let mut cells = [77u64; CELLS];
+    let mut stored = Stored {
+        file: File::open(&rt, "calls")?,
+        base: [0; TABLE],
+        cells: [77; CELLS],
+    };
     // more turns than a stored file has records
-    let mut turns: u32 = 100000;
-    while 0 < turns && next(&rt, &mut file, &mut base, &mut cells)? {
-        turns -= 1;
+    for _ in 0..100000 {
+        match stored.record(&rt) {
+            Ok(()) => {}
+            Err(Stop::NoRecord) => break,
+            Err(Stop::BadRecord) => return println!(rt; "bad record"),
+            Err(Stop::NoOutput(error)) => return Err(error),
+        }
     }
     Ok(())
 }

@@ -1,3 +1,3 @@
-pub mod Offers
-pub mod Held
+pub mod Counts
+pub mod Modes
 pub mod Settled

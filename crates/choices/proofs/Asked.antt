@@ -14,13 +14,13 @@ use Rattle.model.proofs.Bounds.{cores_most}
 use Rattle.block.specs.Bytes.{Bytes, value, number}
 use Rattle.block.specs.Layout.{permitted_in}
 use Rattle.block.specs.Tests.{allows}
-use Rattle.block.proofs.Zeros.{drop_take}
+use Rattle.std.proofs.lemmas.List.{drop-take}
 use Rattle.table.specs.Order.{block_at, task_block, table_rows, ask_task_rows, ask_mode_rows}
 use Rattle.table.specs.Numbers.{TaskNumbers, task_numbers_in, numbers_in}
 use Rattle.table.specs.Lawful.{LawfulFigures}
 use Rattle.table.specs.inner.Accepted.{LawfulWith}
 use Rattle.table.proofs.Limits.{period_short}
-use Rattle.table.proofs.Accepted.{lawful}
+use Rattle.table.proofs.Accepted.{lawful, plannable}
 use Rattle.choices.specs.Tasks.{cores_at, cost_at}
 use Rattle.choices.proofs.Meeting.{meets_at}
 use Rattle.choices.proofs.Tables.{cost_limit, block_limits}
@@ -28,7 +28,7 @@ use Rattle.choices.proofs.Tables.{cost_limit, block_limits}
 -- the common period stands at the same place in the table as in its header
 pub common_read : (bytes : List ℕ) → number 4 8 bytes ≡ (numbers_in bytes).common
 unfolding number block_at
-common_read bytes = ap value (sym (ap (take 4) (drop_take 8 504 bytes) ∙ take-take 4 504 (drop 8 bytes) (omega arith)))
+common_read bytes = ap value (sym (ap (take 4) (drop-take 8 504 bytes) ∙ take-take 4 504 (drop 8 bytes) (omega arith)))
 
 -- the choice by what was found of it: the task's block, the common period, and the cores
 pub choice_found : (bytes block : List ℕ) (i j H k : ℕ) → block ≡ take 512 (drop (512 * (i + 1)) bytes) → H ≡ number 4 8 bytes
@@ -82,4 +82,4 @@ module _ {bytes : List ℕ} {i j : ℕ} (a : Asked bytes i j) where
 
   pub cost_fit : cost_at (numbers_in bytes).common t j < 2 ^ 64
   unfolding block_at
-  cost_fit = omega (arith, cost_limit (numbers_in bytes).common t j (block_limits a.lawful i a.task (task_block bytes i) refl) a.mode)
+  cost_fit = omega (arith, cost_limit (numbers_in bytes).common t j (block_limits (plannable a.lawful) i a.task (task_block bytes i) refl) a.mode)

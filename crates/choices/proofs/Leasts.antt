@@ -1,9 +1,10 @@
--- The least need of the modes that are left. Assumes nothing.
-use Prim.Native.Nat.{ℕ, suc, ◌+◌, ◌-◌, ◌≤◌, ◌<◌, min}
-use mathlib.Core.Path.{◌≡◌, refl}
+-- The least need of a task's modes, one after the other. Assumes nothing.
+use Prim.Native.Nat.{ℕ, zero, suc, ◌+◌, ◌-◌, ◌≤◌, ◌<◌, min}
+use mathlib.Core.Path.{◌≡◌, refl, ◌∙◌}
 use mathlib.Core.Bool.{Bool, true, false, cond}
 use mathlib.Core.List.{[], ◌∷◌}
 use native.Mathlib.Omega.{arith}
+use Rattle.std.specs.List.{fold, range_with_len}
 use Rattle.model.specs.Turns.{each_from}
 use Rattle.model.specs.Plan.{Task}
 use Rattle.model.specs.Cells.{mark}
@@ -11,12 +12,8 @@ use Rattle.model.specs.inner.Fitting.{least_need}
 use Rattle.block.specs.Tests.{allows}
 use Rattle.table.specs.Numbers.{TaskNumbers}
 use Rattle.choices.specs.Tasks.{cores_at, choice_of, task_of}
-use Rattle.choices.specs.inner.Arrays.{need_at}
+use Rattle.choices.specs.inner.Modes.{need_at, AllMeet}
 use Rattle.choices.proofs.Loads.{Meets}
-
--- the least need of the modes from j up to an end
-abbrev pub left : ℕ → TaskNumbers → ℕ → ℕ → ℕ
-left H t j end = least_need (each_from (choice_of H t) j (end - j))
 
 need_most : (t : Task) → least_need t ≤ mark
 unfolding least_need
@@ -24,9 +21,6 @@ need_most [] = omega arith
 need_most (o ∷ os) = omega (arith, need_most os)
 
 module _ (H : ℕ) (t : TaskNumbers) where
-  pub left_none : (end : ℕ) → min mark (left H t 0 end) ≡ left H t 0 end
-  left_none end = omega (arith, need_most (each_from (choice_of H t) 0 (end - 0)))
-
   -- the need held for a mode that meets its period is what it counts for
   own : (j : ℕ) → Meets t j → need_at t j ≡ cond (allows t.permitted j) (cores_at t j) mark
   own j m = go (allows t.permitted j) refl
@@ -35,16 +29,19 @@ module _ (H : ℕ) (t : TaskNumbers) where
       go true e = rw (e, m)
       go false e = rw e
 
-  pub left_one : (j end : ℕ) → j < end → Meets t j → left H t j end ≡ min (need_at t j) (left H t (j + 1) end)
-  unfolding least_need each_from
-  left_one j end h m =
-      let one : end - j ≡ suc (end - (j + 1)) = omega arith in
-      rw (one, own j m)
+  -- the least so far, and that of the modes from j on
+  abbrev pub lesser : ℕ → ℕ → ℕ
+  lesser least j = min least (need_at t j)
 
-  pub left_end : (j end : ℕ) → end ≤ j → left H t j end ≡ mark
+  fold_left : (left j least : ℕ) → least ≤ mark → ((k : ℕ) → k < j + left → Meets t k)
+      → fold lesser least (range_with_len j left) ≡ min least (least_need (each_from (choice_of H t) j left))
   unfolding least_need each_from
-  left_end j end h = let none : end - j ≡ 0 = omega arith in rw none
+  fold_left zero j least h m = omega arith
+  fold_left (suc left) j least h m =
+      fold_left left (j + 1) (min least (need_at t j)) (omega arith) (λ k l. m k (omega arith)) ∙ omega (arith, own j (m j (omega arith)))
 
-  pub left_all : (end : ℕ) → end ≡ t.modes → left H t 0 end ≡ least_need (task_of H t)
+  pub least_is : (count : ℕ) → count ≡ t.modes → AllMeet t → fold lesser mark (range_with_len 0 (count - 0)) ≡ least_need (task_of H t)
   unfolding task_of
-  left_all end e = let n : end - 0 ≡ t.modes = omega arith in rw n
+  least_is count e m =
+      let n : count - 0 ≡ t.modes = omega arith in
+      rw n (fold_left t.modes 0 mark (omega arith) (λ k l. m k (omega arith)) ∙ omega (arith, need_most (each_from (choice_of H t) 0 t.modes)))

@@ -1,8 +1,7 @@
-pub mod Sixteens
 pub mod Tables
 pub mod Meeting
+pub mod Prices
 pub mod Loads
 pub mod Leasts
 pub mod Asked
-pub mod Answers
 pub mod Settled

@@ -1,55 +1,81 @@
 -- Each public promise settles its outcome: at most one is allowed, and of asking at least one. Assumes nothing.
 use Prim.Native.Nat.{ℕ}
 use native.Mathlib.Omega.{arith}
-use mathlib.Core.Path.{◌≡◌, ◌∙◌, sym, refl}
-use mathlib.Core.List.{List, []}
+use mathlib.Core.Path.{◌≡◌, ◌∙◌, sym, ap, refl}
+use mathlib.Core.List.{List}
 use Rattle.answer.specs.One.{One, AtLeastOne}
-use Rattle.answer.specs.Said.{choice}
-use Rattle.answer.proofs.Each.{Fits, some}
+use Rattle.std.specs.Prelude.{Result, Ok}
+use mathlib.Core.Bool.{Bool, true, false, cond}
+use lib.Dec.{eqb}
+use Rattle.answer.specs.Said.{choice, said_of}
+use Rattle.answer.specs.declared.Refusal.{Refusal}
+use Rattle.answer.proofs.Rows.{numbers}
+use Rattle.answer.proofs.Settled.{said_one}
+use Rattle.answer.proofs.Held.{Held, some_answer}
+use Rattle.answer.proofs.Each.{Fits}
+use Rattle.arrayvec.specs.ArrayVec.{ArrayVec}
+use Rattle.cells.specs.declared.mode.Mode.{Mode}
+use Rattle.cells.proofs.Modes.{by_choices}
 use Rattle.block.specs.Bytes.{Bytes}
 use Rattle.table.specs.Order.{ask_mode_rows}
 use Rattle.table.specs.Numbers.{numbers_in}
 use Rattle.table.proofs.Refusals.{front_fits, task_fits, each_ask_mode}
-use Rattle.choices.specs.declared.Choosing.{Choosing}
+use Rattle.choices.specs.declared.Choice.{Choice}
+use Rattle.choices.specs.contracts.Choice as choices
+use Rattle.choices.proofs.Choice.TheLaws as choice_laws
 use Rattle.choices.specs.Tasks.{choice_of}
-use Rattle.choices.specs.Said.{said, ask_choice_said}
-use Rattle.choices.proofs.Answers.{one_answer, Held, some_refusal, some_choice}
+use Rattle.choices.specs.Said.{the_choice, ask_choice_said}
 use Rattle.choices.proofs.Asked.{asked, cores_fit, cost_fit}
-use Rattle.choices.proofs.modes.Kinds as modes_kinds
-use Rattle.choices.proofs.modes.Reads as modes_reads
-use Rattle.choices.proofs.needs.Kinds as needs_kinds
-use Rattle.choices.proofs.needs.Reads as needs_reads
+use Rattle.choices.proofs.need_of.Kinds as need_of_kinds
+use Rattle.choices.proofs.need_of.Reads as need_of_reads
 use Rattle.choices.proofs.least_need.Kinds as least_need_kinds
 use Rattle.choices.proofs.least_need.Reads as least_need_reads
-use Rattle.choices.proofs.costs.Kinds as costs_kinds
-use Rattle.choices.proofs.costs.Reads as costs_reads
+use Rattle.choices.proofs.load_modes.Kinds as load_modes_kinds
+use Rattle.choices.proofs.load_modes.Reads as load_modes_reads
 use Rattle.choices.proofs.ask_choice.Kinds as ask_choice_kinds
 use Rattle.choices.proofs.ask_choice.Reads as ask_choice_reads
 
-pub modes_one : One modes_kinds.ps modes_kinds.r modes_reads.Post
-modes_one κs a x y s t p q = (p ∙ sym q, refl)
-
-pub needs_one : One needs_kinds.ps needs_kinds.r needs_reads.Post
-needs_one κs a x y s t p q = (p ∙ sym q, refl)
+pub need_of_one : One need_of_kinds.ps need_of_kinds.r need_of_reads.Post
+need_of_one κs a x y s t p q = (p ∙ sym q, refl)
 
 pub least_need_one : One least_need_kinds.ps least_need_kinds.r least_need_reads.Post
 least_need_one κs a x y s t p q = (p 0 ∙ sym (q 0), refl)
 
-pub costs_one : One costs_kinds.ps costs_kinds.r costs_reads.Post
-costs_one κs a x y s t p q = (p ∙ sym q, refl)
+-- a list as it is held
+abbrev holding : List Mode → ArrayVec Mode
+holding l = record { items = l }
+
+pub load_modes_one : One load_modes_kinds.ps load_modes_kinds.r load_modes_reads.Post
+load_modes_one κs a x y s t p q =
+    (refl, ap (λ (l : List Mode). (tt, (tt, (holding l, tt)))) (by_choices (s.1.1.0).items (t.1.1.0).items (p ∙ sym q)))
+
+-- what is said of a choice is the whole of it
+bit_back : (b : Bool) → eqb (cond b 1 0) 1 ≡ b
+bit_back true = refl
+bit_back false = refl
+
+choice_same : (x y : Choice) → the_choice x ≡ the_choice y → x ≡ y
+choice_same x y e =
+    ap (λ b. record { permitted = b; cores = x.cores; cost = x.cost }) (sym (bit_back x.permitted))
+    ∙ ap (λ s. record { permitted = eqb (numbers s).0 1; cores = (numbers s).1; cost = (numbers s).2 }) e
+    ∙ ap (λ b. record { permitted = b; cores = y.cores; cost = y.cost }) (bit_back y.permitted)
 
 pub ask_choice_one : One ask_choice_kinds.ps ask_choice_kinds.r ask_choice_reads.Post
-ask_choice_one κs a x y s t p q = (one_answer x y p q, refl)
+ask_choice_one κs a x y s t p q = (said_one the_choice choice_same (λ o z. omega (arith, z)) x y (p ∙ sym q), refl)
 
 -- ---- at least one
-some_asked : (bytes : List ℕ) → Bytes bytes → (i j : ℕ) → (r : Choosing) × Held r × (said r ≡ ask_choice_said bytes i j)
+some_asked : (bytes : List ℕ) → Bytes bytes → (i j : ℕ)
+    → (x : Result Choice Refusal) × Held choices.the_row choice_laws.the_row_laws choice_laws.the_told x × (said_of the_choice x ≡ ask_choice_said bytes i j)
 some_asked bytes b i j =
-    let rows = ask_mode_rows bytes i j in
     let c = choice_of (numbers_in bytes).common ((numbers_in bytes).task i) j in
-    let o = some Fits said Held rows (choice c.permitted c.need c.cost) [] []
-    (each_ask_mode Fits bytes (front_fits bytes b) (task_fits bytes b) (omega arith, omega arith) i j) some_refusal
-    (λ none. let a = asked bytes i j b none in some_choice c.permitted c.need c.cost (cores_fit a) (cost_fit a)) in
-    (o.answer, o.held, o.allowed.says)
+    some_answer choices.the_row choice_laws.the_row_laws choice_laws.the_told the_choice (ask_mode_rows bytes i j) (choice c.permitted c.need c.cost)
+    (each_ask_mode Fits bytes (front_fits bytes b) (task_fits bytes b) (refl, omega arith) i j)
+    (λ none.
+    let a = asked bytes i j b none in (
+      Ok (record { permitted = c.permitted; cores = c.need; cost = c.cost }),
+      (_, (refl, (_, (refl, ((_, (refl, (refl, ((refl, cores_fit a), ((refl, cost_fit a), tt))))), tt))))),
+      refl,
+    ))
 
 pub ask_choice_some : AtLeastOne ask_choice_kinds.ps ask_choice_kinds.r (λ κs a. Bytes a.0.now) ask_choice_reads.Post
 ask_choice_some κs a b =

@@ -1,12 +1,11 @@
 -- Laws of a table's tasks as the planner sees them. Assumes nothing.
-use Prim.Native.Nat.{ℕ, zero, suc, ◌+◌, ◌-◌, ◌*◌, ◌≤◌, ◌<◌}
+use Prim.Native.Nat.{ℕ, zero, suc, ◌+◌, ◌*◌, ◌≤◌, ◌<◌}
 use native.Mathlib.Nat.{zero-add, mul-le-mul}
 use native.Mathlib.Omega.{arith}
 use native.Mathlib.Decide.{dec_lt}
 use mathlib.Core.Path.{◌≡◌, ap, ◌∙◌}
 use mathlib.Core.List.{List, []}
-use lib.ListN.{length, take, drop, get_or, replicate, get_or-eq_default, get_or-append}
-use lib.Seq.{take-append_seam}
+use lib.ListN.{length, take, drop, get_or, get_or-eq_default}
 use Rattle.model.specs.Turns.{each_from}
 use Rattle.model.specs.Limits.{most_tasks, most_cores}
 use Rattle.model.specs.Plan.{Task, absent, choice}
@@ -15,13 +14,12 @@ use Rattle.model.specs.Workspace.{cell_count}
 use Rattle.model.proofs.Turns.{each_length, each_at}
 use Rattle.model.proofs.Bounds.{demand_within, cost_most}
 use Rattle.model.proofs.Best.{Priced, few_within}
-use Rattle.cells.specs.inner.Rows.{NoneDearer}
 use Rattle.table.specs.Order.{block_at, task_block}
 use Rattle.table.specs.Numbers.{TaskNumbers, task_numbers_in, Numbers, numbers_in}
 use Rattle.table.specs.Lawful.{Lawful}
-use Rattle.table.specs.inner.Accepted.{LawfulTable, LawfulWith}
+use Rattle.table.specs.inner.Accepted.{LawfulTable, Plannable}
 use Rattle.choices.specs.Tasks.{demand_at, cost_at, choice_of, task_of, tasks_of, tasks_of_table, cores_of_table, cells_of_table}
-use Rattle.choices.specs.inner.Arrays.{sixteen, costs_of, InLimits, AllMeet}
+use Rattle.choices.specs.inner.Modes.{InLimits, AllMeet}
 
 -- ---- the tasks of a table, and the modes of a task
 pub tasks_length : (t : Numbers) → length (tasks_of t) ≡ t.tasks
@@ -67,22 +65,13 @@ pub cost_limit : (H : ℕ) (t : TaskNumbers) (j : ℕ) → InLimits H t → j < 
 cost_limit H t j l h =
     cost_most t.elasticity (demand_at H t 0) (demand_at H t j) (demand_limit H t 0 l (omega arith)) (demand_limit H t j l h)
 
--- by its choice, and as it is held: nothing past the last mode
+-- by its choice: nothing past the last mode
 choice_limit : (H : ℕ) (t : TaskNumbers) (j : ℕ) → InLimits H t → (choice (task_of H t) j).cost ≤ dearest
 choice_limit H t j l = go (dec_lt j t.modes)
   where
     go : Dec (j < t.modes) → (choice (task_of H t) j).cost ≤ dearest
     go (yes h) = rw (choice_at H t j h) (cost_limit H t j l h)
     go (no h) = rw (choice_past H t j (omega arith)) (omega arith)
-
-pub none_dearer : (H : ℕ) (t : TaskNumbers) → InLimits H t → NoneDearer (costs_of H t)
-none_dearer H t l j = go (dec_lt j t.modes)
-  where
-    go : Dec (j < t.modes) → get_or (costs_of H t) j 0 ≤ dearest
-    go (yes h) = rw (each_at (cost_at H t) 0 0 t.modes j h, zero-add j) (cost_limit H t j l h)
-    go (no h) =
-        let past : length (costs_of H t) ≤ j = omega (arith, each_length (cost_at H t) 0 t.modes) in
-        rw (get_or-eq_default (costs_of H t) 0 past) (omega arith)
 
 -- tasks in turn
 priced_each : (f : ℕ → Task) (i left : ℕ) → ((k j : ℕ) → i ≤ k → k < i + left → (choice (f k) j).cost ≤ dearest) → Priced (each_from f i left)
@@ -111,19 +100,19 @@ cells_most bytes t =
     let h = t.numbers.header in
     mul-le-mul {n₂ = most_tasks + 1} {m₂ = most_cores + 1} (omega (arith, h.tasks_high)) (omega (arith, h.cores_high))
 
-module _ {bytes : List ℕ} {n m H : ℕ} (w : LawfulWith bytes n m H) where
+module _ {bytes : List ℕ} {n m H : ℕ} (w : Plannable bytes n m H) where
   pub count_is : cells_of_table bytes ≡ (n + 1) * (m + 1)
   unfolding cell_count
   count_is = rw (w.tasks, w.cores)
 
   pub few_tasks : n ≤ most_tasks
-  few_tasks = rw (← w.tasks) w.table.numbers.header.tasks_high
+  few_tasks = w.header.tasks_high
 
   pub few_cores : m ≤ most_cores
-  few_cores = rw (← w.cores) w.table.numbers.header.cores_high
+  few_cores = w.header.cores_high
 
   pub count_most : (n + 1) * (m + 1) ≤ most_cells
-  count_most = rw (← count_is) (cells_most bytes w.table)
+  count_most = mul-le-mul {n₂ = most_tasks + 1} {m₂ = most_cores + 1} (omega (arith, few_tasks)) (omega (arith, few_cores))
 
   -- and a task's block: its limits, and the task that the planner sees
   module _ (i : ℕ) (less : i < n) (block : List ℕ) (is : block ≡ take 512 (drop (512 * (i + 1)) bytes)) where
@@ -135,19 +124,11 @@ module _ {bytes : List ℕ} {n m H : ℕ} (w : LawfulWith bytes n m H) where
     there = rw w.tasks less
 
     pub block_limits : InLimits H (task_numbers_in block)
-    block_limits = rw (own, ← w.common) (in_limits (numbers_in bytes) i w.table.numbers there)
+    block_limits =
+        rw own (record { common = w.header.common_high; few = w.few i less; work = λ j below. (w.mode i j less below).work_high })
 
     pub block_meets : AllMeet (task_numbers_in block)
-    block_meets = rw own (all_meet (numbers_in bytes) i w.table.numbers there)
+    block_meets = rw own (λ j below. (w.mode i j less below).meeting)
 
     pub block_task : get_or (tasks_of_table bytes) i [] ≡ task_of H (task_numbers_in block)
     block_task = rw (own, ← w.common) (task_at (numbers_in bytes) i there)
-
--- ---- an array of 16: what was written is at the front
-pub sixteen_front : (xs : List ℕ) → length xs ≤ 16 → take (length xs) (sixteen xs) ≡ xs
-unfolding sixteen
-sixteen_front xs h = take-append_seam xs (replicate (16 - length xs) 0)
-
-pub sixteen_at : (xs : List ℕ) (j : ℕ) → j < length xs → get_or (sixteen xs) j 0 ≡ get_or xs j 0
-unfolding sixteen
-sixteen_at xs j h = get_or-append xs (replicate (16 - length xs) 0) 0 j h

@@ -1,16 +1,14 @@
--- Asking for a choice, with the document's number and values for each case of `Choosing`.
+-- Asking for a choice, in the document's numbers.
 use Rattle.std.specs.Prelude.{ℕ, List}
-use Rattle.answer.specs.Said.{Said, refused, choice}
+use Rattle.answer.specs.Said.{Said, choice}
 use Rattle.answer.specs.Order.{first}
 use Rattle.table.specs.Order.{ask_mode_rows}
 use Rattle.table.specs.Numbers.{numbers_in}
 use Rattle.choices.specs.Tasks.{choice_of}
-use Rattle.choices.specs.declared.Choosing.{Choosing}
-use Rattle.choices.specs.declared.Choosing.TheVariants.{Refused, Choice}
+use Rattle.choices.specs.declared.Choice.{Choice}
 
-abbrev pub said : Choosing → Said
-said (Refused r) = refused r.number r.at
-said (Choice permitted cores cost) = choice permitted cores cost
+abbrev pub the_choice : Choice → Said
+the_choice c = choice c.permitted c.cores c.cost
 
 -- the mode as the planner sees it; refused as asking for its figures is
 abbrev pub ask_choice_said : List ℕ → ℕ → ℕ → Said

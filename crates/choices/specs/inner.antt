@@ -1,4 +1,4 @@
 -- For proofs, and for the contracts of functions that no user calls.
 
--- a task's choices as two arrays hold them
-pub mod Arrays
+-- a task's modes as its row is filled by them
+pub mod Modes

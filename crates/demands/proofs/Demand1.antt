@@ -20,7 +20,7 @@ use Rattle.writer.proofs.Refusals as writer
 use Rattle.writer.proofs.Refusals.{each_header, each_task}
 use Rattle.portions.proofs.Refusals as portions
 use Rattle.portions.proofs.Refusals.{each_portion}
-use Rattle.taking.specs.declared.Taken.{Taken}
+use Rattle.taking.specs.Said.{Taken}
 use Rattle.taking.specs.Said as taking
 use Rattle.taking.proofs.Refusals as taking_refusals
 use Rattle.taking.specs.Take.{lent_rows}

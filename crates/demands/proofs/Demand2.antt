@@ -15,7 +15,8 @@ use Rattle.model.specs.Workspace.{advance}
 use Rattle.model.proofs.Fills.{fill_length, fill_outside}
 use Rattle.model.proofs.Locals.{fill_holds, rule_local}
 use Rattle.block.specs.Bytes.{Bytes}
-use Rattle.block.specs.Layout.{elasticity_in, modes_in, permitted_in, Figures, figures_in, flat}
+use Rattle.model.specs.declared.Figures.{Figures}
+use Rattle.block.specs.Layout.{elasticity_in, modes_in, permitted_in, figures_in, flat}
 use Rattle.block.specs.Tests.{allows}
 use Rattle.block.specs.Whole.{header_bytes}
 use Rattle.block.proofs.Figures.{flat_same}

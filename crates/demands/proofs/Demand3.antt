@@ -24,11 +24,10 @@ use Rattle.choices.specs.Tasks.{tasks_of_table, cores_of_table, cells_of_table}
 use Rattle.portions.specs.Portion.{own_rows, portion_rows, rule_of, FilledTo}
 use Rattle.portions.specs.Runs.{Run, RunTo, spent}
 use Rattle.portions.proofs.Laws.{step_went, run_is, there_is_a_run}
-use Rattle.taking.specs.declared.Taken.{Taken}
-use Rattle.taking.specs.Said.{said}
+use Rattle.taking.specs.Said.{Taken, said}
 use Rattle.taking.specs.Take.{cell_of, lent_rows, progress_rows, taking_rows, TookPlan}
 use Rattle.taking.specs.inner.From.{TookFrom}
-use Rattle.taking.proofs.Answers.{held_in_type}
+use Rattle.taking.proofs.Settled.{held_in_type}
 use Rattle.taking.proofs.Lent.{none_all}
 use Rattle.taking.proofs.Settled.{some_taken}
 use Rattle.whole.specs.Whole.{PlanGiven, NoPlanFits}

@@ -21,8 +21,7 @@ use Rattle.table.proofs.Limits.{task_lawful, figures_lawful}
 use Rattle.table.proofs.Accepted.{answered_none}
 use Rattle.choices.specs.Tasks.{tasks_of, tasks_of_table, cores_of_table}
 use Rattle.choices.proofs.Tables.{tasks_length, task_at, task_length}
-use Rattle.taking.specs.declared.Taken.{Taken}
-use Rattle.taking.specs.Said.{said}
+use Rattle.taking.specs.Said.{Taken, said}
 use Rattle.taking.specs.Take.{with_modes}
 use Rattle.demands.specs.Demand2.{ReadsAs}
 use Rattle.whole.specs.Whole.{PlanGiven, NoPlanFits}

@@ -5,13 +5,13 @@ use Rattle.answer.specs.Order.{OneOf}
 use Rattle.table.specs.Order.{table_said, ask_task_said, ask_mode_said}
 use Rattle.table.specs.Numbers.{numbers_in}
 use Rattle.choices.specs.Said.{ask_choice_said}
-use Rattle.writer.specs.declared.Written.{Written}
+use Rattle.writer.specs.Said.{Written}
 use Rattle.writer.specs.Said as writer
 use Rattle.writer.specs.Order.{WroteHeader, WroteTask}
-use Rattle.portions.specs.declared.Filling.{Filling}
+use Rattle.portions.specs.Said.{Filling}
 use Rattle.portions.specs.Said as portions
 use Rattle.portions.specs.Portion.{Portioned}
-use Rattle.taking.specs.declared.Taken.{Taken}
+use Rattle.taking.specs.Said.{Taken}
 use Rattle.taking.specs.Said as taking
 use Rattle.taking.specs.Take.{TookPlan}
 use Rattle.whole.specs.Whole.{PlannedWhole}

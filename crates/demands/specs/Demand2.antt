@@ -1,6 +1,6 @@
 -- Demand 2, after its first sentence, which is the rules for one mode (`model/specs/Rules.antt`): "Every lawful table is accepted.
 -- Written and read back it gives the same numbers; read and rewritten, the same bytes. A portion fills just the cells it pays for."
-use Rattle.std.specs.Prelude.{ℕ, ◌+◌, ◌*◌, ◌≤◌, ◌<◌, ◌≡◌, ◌⊎◌, List, ◌++◌, length, drop, get_or}
+use Rattle.std.specs.Prelude.{ℕ, ◌+◌, ◌*◌, ◌≤◌, ◌<◌, ◌≡◌, ◌⊎◌, Ok, List, ◌++◌, length, drop, get_or}
 use Rattle.answer.specs.Said.{header, task, figures}
 use Rattle.model.specs.Workspace.{advance}
 use Rattle.block.specs.Bytes.{Bytes}
@@ -8,7 +8,6 @@ use Rattle.table.specs.Order.{header_block, task_block, table_said, Accepted, as
 use Rattle.table.specs.Numbers.{TaskNumbers, figures_of, Numbers}
 use Rattle.table.specs.Lawful.{Lawful}
 use Rattle.choices.specs.Tasks.{cells_of_table}
-use Rattle.writer.specs.declared.Written.TheVariants.{Done}
 use Rattle.writer.specs.Order.{WroteHeader, WroteTask}
 use Rattle.portions.specs.Portion.{rule_of}
 use Rattle.portions.specs.Runs.{Step}
@@ -20,15 +19,15 @@ pub record ReadsAs (bytes : List ℕ) (t : Numbers) : Type 0 where
   pub each_mode : (i j : ℕ) → i < t.tasks → j < (t.task i).modes
       → ask_mode_said bytes i j ≡ figures ((t.task i).figures j).work ((t.task i).figures j).span ((t.task i).figures j).period
 
--- ---- writing: lent any buffer with room, `write_header` answers Done, leaves this block in its first 512 bytes and the rest as it was;
+-- ---- writing: lent any buffer with room, `write_header` answers Ok, leaves this block in its first 512 bytes and the rest as it was;
 -- `write_task` likewise
 abbrev pub HeaderWrites : ℕ → ℕ → ℕ → List ℕ → Type 0
-HeaderWrites n m H block = (buffer : List ℕ) → 512 ≤ length buffer → WroteHeader n m H buffer Done (block ++ drop 512 buffer)
+HeaderWrites n m H block = (buffer : List ℕ) → 512 ≤ length buffer → WroteHeader n m H buffer (Ok tt) (block ++ drop 512 buffer)
 
 abbrev pub TaskWrites : ℕ → ℕ → TaskNumbers → List ℕ → Type 0
 TaskWrites H i t block =
     (buffer : List ℕ) → 512 ≤ length buffer
-    → WroteTask H i t.elasticity t.modes t.permitted (figures_of t) buffer Done (block ++ drop 512 buffer)
+    → WroteTask H i t.elasticity t.modes t.permitted (figures_of t) buffer (Ok tt) (block ++ drop 512 buffer)
 
 -- these bytes are the blocks that the writers write of these numbers, one after another
 pub record WrittenAs (t : Numbers) (bytes : List ℕ) : Type 0 where

@@ -8,11 +8,11 @@ use Rattle.model.specs.Plan.{NothingFits}
 use Rattle.block.specs.Bytes.{Bytes}
 use Rattle.table.specs.Numbers.{numbers_in}
 use Rattle.choices.specs.Tasks.{tasks_of_table, cores_of_table, cells_of_table}
-use Rattle.portions.specs.declared.Filling.{Filling}
+use Rattle.portions.specs.Said.{Filling}
 use Rattle.portions.specs.Said as portions
 use Rattle.portions.specs.Portion.{Portioned}
 use Rattle.portions.specs.Runs.{Run, RunTo, spent}
-use Rattle.taking.specs.declared.Taken.{Taken}
+use Rattle.taking.specs.Said.{Taken}
 use Rattle.taking.specs.Said as taking
 use Rattle.taking.specs.Take.{TookPlan}
 use Rattle.table.specs.Order.{Accepted}

@@ -3,7 +3,8 @@ use Rattle.std.specs.Prelude.{ℕ, ◌≡◌, List, [], ◌∷◌, get_or}
 use Rattle.answer.specs.Said.{Said, refused, needs, plan}
 use Rattle.model.specs.Rules.{cores_said}
 use Rattle.model.specs.Taking.{Right}
-use Rattle.block.specs.Layout.{Figures, listed}
+use Rattle.model.specs.declared.Figures.{Figures}
+use Rattle.block.specs.Layout.{listed}
 use Rattle.table.specs.Numbers.{TaskNumbers, Numbers}
 use Rattle.choices.specs.Tasks.{tasks_of}
 

@@ -8,8 +8,7 @@ use Rattle.table.specs.Numbers.{numbers_in}
 use Rattle.choices.specs.Tasks.{tasks_of_table, cores_of_table, cells_of_table}
 use Rattle.portions.specs.Portion.{FilledTo}
 use Rattle.portions.specs.Runs.{Step}
-use Rattle.taking.specs.declared.Taken.{Taken}
-use Rattle.taking.specs.Said.{said}
+use Rattle.taking.specs.Said.{Taken, said}
 use Rattle.demands.specs.Demand2.{EveryLawfulTableIsAccepted}
 use Rattle.table.specs.Order.{Accepted}
 use Rattle.demands.specs.Demand3.{NoPortionIsRefused, Asked}

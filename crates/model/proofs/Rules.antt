@@ -1,9 +1,11 @@
 -- Laws of the rules for one mode. Assumes nothing.
-use mathlib.Core.Path.{◌≡◌, ap, sym, ◌∙◌}
+use mathlib.Core.Path.{◌≡◌, sym}
 use mathlib.Core.Bool.{true, false}
 use mathlib.Core.Logic.{◌⊎◌, ⊎_elim, inl, inr}
-use Prim.Native.Nat.{ℕ, ◌+◌, ◌-◌, ◌/◌, ◌≤◌, ◌<◌}
-use native.Mathlib.Nat.{add-div_right}
+use Prim.Native.Nat.{ℕ, ◌+◌, ◌-◌, ◌*◌, ◌≤◌, ◌<◌}
+use Rattle.std.specs.Int.{div_ceil}
+use Rattle.std.proofs.Math.Nat.{div-eq_of_lt-le}
+use Rattle.std.proofs.lemmas.Grind.{div_ceil_times}
 use native.Mathlib.Omega.{arith}
 use lib.Dec.{eqb, leb, ltb}
 use borrow.Author.Tests.{eqb-true, leb-true, ltb-true, eq-eqb, ne_eqb, le-leb, lt-ltb}
@@ -21,11 +23,12 @@ meets_fact C L T e =
     (λ h. let r = and_true (ltb L T) (ltb L C) h in inr (ltb-true L T r.0, ltb-true L C r.1))
     (or_true (one_core C L T) (more_cores C L T) e)
 
--- rounding up without the sum
-pub up_is : (a b : ℕ) → 0 < a → 0 < b → (a - 1) / b + 1 ≡ rounded_up a b
-up_is a b ha hb =
-    let e : a - 1 + b ≡ a + (b - 1) = omega arith in
-    sym (add-div_right (a - 1) hb) ∙ ap (λ (n : ℕ). n / b) e
+-- the library's quotient, rounded up, is the document's
+pub up_is : (a b : ℕ) → 0 < b → div_ceil a b ≡ rounded_up a b
+up_is a b hb =
+    let bounds = div_ceil_times a b hb in
+    let next : (div_ceil a b + 1) * b ≡ div_ceil a b * b + b = omega arith in
+    sym (div-eq_of_lt-le {k = div_ceil a b} b (omega (arith, bounds.1)) (omega (arith, bounds.0, next)))
 
 -- which of the three cases `cores` is in
 pub cores_late : (C L T : ℕ) → meets C L T ≡ false → refused 13 0 ≡ cores_said C L T

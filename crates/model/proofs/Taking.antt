@@ -84,7 +84,7 @@ used_least row m x e = go (dec_le (used row m) x)
     go (yes h) = h
     go (no n) = absurd (eqb-false (row x) (row m) ((searched (λ c. eqb (row c) (row m)) 0 m).before x (omega arith) (omega arith)) e)
 
-used_cong : (f g : ℕ → ℕ) (m : ℕ) → ((x : ℕ) → x ≤ m → f x ≡ g x) → used f m ≡ used g m
+pub used_cong : (f g : ℕ → ℕ) (m : ℕ) → ((x : ℕ) → x ≤ m → f x ≡ g x) → used f m ≡ used g m
 used_cong f g m h =
     search_cong (λ c. eqb (f c) (f m)) (λ c. eqb (g c) (g m)) 0 m (λ x a. ap₂ eqb (h x (omega arith)) (h m (omega arith)))
 

@@ -1,11 +1,13 @@
 -- Laws of values in turn. Assumes nothing.
 use Prim.Native.Nat.{ℕ, zero, suc, ◌+◌, ◌≤◌, ◌<◌}
-use native.Mathlib.Nat.{eq-or-lt_of_le, add-zero}
+use native.Mathlib.Nat.{eq-or-lt_of_le, le_antisymm, add-zero}
+use native.Mathlib.Numerals.{add-one}
 use native.Mathlib.Omega.{arith}
 use mathlib.Core.Logic.{⊎_elim}
-use mathlib.Core.Path.{◌≡◌, refl, ap, subst, ◌∙◌}
-use mathlib.Core.List.{List, [], ◌∷◌, ◌++◌}
-use lib.ListN.{length, drop, get_or}
+use mathlib.Core.Path.{◌≡◌, refl, sym, ap, subst, ◌∙◌}
+use mathlib.Core.List.{List, [], ◌∷◌, ◌++◌, append-nil}
+use lib.ListN.{length, drop, get_or, set, drop_of_length-le}
+use lib.Seq.{drop-cons, set_at, append_snoc}
 use Rattle.model.specs.Turns.{each_from}
 
 module _ {A : Type 0} where
@@ -45,3 +47,17 @@ module _ {A : Type 0} where
         ⊎_elim (λ same. subst (λ (x : ℕ). f x ≡ g x) same (ap (λ (l : List A). get_or l 0 (f j)) e))
         (λ more. same_each (j + 1) left (ap (drop 1) e) k (omega arith) (omega arith))
         (eq-or-lt_of_le low)
+
+  -- ---- a loop that puts them over the front of a list: before its first turn, one more, all of them
+  pub each_put : (f : ℕ → A) (c : ℕ) (was is : List A) (i : ℕ) (v : A) → i < length was → v ≡ f (c + i)
+      → is ≡ each_from f c i ++ drop i was → set is i v ≡ each_from f c (i + 1) ++ drop (i + 1) was
+  each_put f c was is i v h e q =
+      ap (λ (l : List A). set l i v) q
+      ∙ rw (add-one, drop-cons was i v, each_more f c i, e)
+      (set_at (each_from f c i) _ (drop (suc i) was) _ i (each_length f c i)
+      ∙ sym (append_snoc (each_from f c i) _ (drop (suc i) was)))
+
+  pub each_over : (f : ℕ → A) (c : ℕ) (was is : List A) (i : ℕ) → length was ≤ i → i ≤ length was → is ≡ each_from f c i ++ drop i was
+      → is ≡ each_from f c (length was)
+  each_over f c was is i h k q =
+      q ∙ rw (drop_of_length-le was h) (append-nil (each_from f c i) ∙ ap (each_from f c) (le_antisymm k h))

@@ -14,8 +14,7 @@ use Rattle.model.proofs.Values.{fill_filled}
 use Rattle.table.specs.Order.{table_rows}
 use Rattle.choices.specs.Tasks.{tasks_of_table, cores_of_table, cells_of_table}
 use Rattle.choices.proofs.Tables.{cells_by_tasks}
-use Rattle.portions.specs.declared.Filling.{Filling}
-use Rattle.portions.specs.Said.{said}
+use Rattle.portions.specs.Said.{Filling, said}
 use Rattle.portions.specs.Portion.{own_rows, portion_rows, rule_of, FilledTo, Portioned}
 
 module _ (bytes before : List ℕ) (p b : ℕ) where

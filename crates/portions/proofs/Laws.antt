@@ -16,7 +16,7 @@ use Rattle.table.specs.Order.{table_rows}
 use Rattle.table.proofs.Accepted.{lawful, answered_none}
 use Rattle.choices.specs.Tasks.{cells_of_table}
 use Rattle.choices.proofs.Tables.{cells_most}
-use Rattle.portions.specs.declared.Filling.TheVariants.{Filled}
+use Rattle.std.specs.Prelude.{Ok}
 use Rattle.portions.specs.Portion.{rule_of}
 use Rattle.portions.specs.Runs.{Step, Run, AllInType, spent, RunTo, ThereIsARun, TwoAreOne, ReachedInTime}
 use Rattle.portions.proofs.Ends.{Went, went, done, portioned}
@@ -28,8 +28,8 @@ step_went {bytes} {before} {after} {p} {b} {q} s = went bytes before p b q s.gav
 abbrev went_step : {bytes before after : List ℕ} {p b q : ℕ} → Went bytes before p b q after → Step bytes before p b after q
 went_step {bytes} {before} {after} {p} {b} {q} w =
     record {
-      answer = Filled q;
-      allowed = portioned bytes before p b (Filled q) after (done bytes before p b w.none w.room w.within (ap filled w.progress) w.cells);
+      answer = Ok q;
+      allowed = portioned bytes before p b (Ok q) after (done bytes before p b w.none w.room w.within (ap filled w.progress) w.cells);
       gave = refl;
     }
 

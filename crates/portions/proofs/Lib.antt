@@ -1,8 +1,6 @@
 pub mod Rows
-pub mod Loaded
 pub mod Runs
-pub mod Answers
 pub mod Refusals
 pub mod Ends
-pub mod Settled
 pub mod Laws
+pub mod Settled

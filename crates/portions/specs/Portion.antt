@@ -6,8 +6,7 @@ use Rattle.answer.specs.Order.{Row, row, Outcome}
 use Rattle.model.specs.Workspace.{Rule, cell_rule, Filled as HoldsBelow, advance, portion}
 use Rattle.table.specs.Order.{table_rows}
 use Rattle.choices.specs.Tasks.{tasks_of_table, cores_of_table, cells_of_table}
-use Rattle.portions.specs.declared.Filling.{Filling}
-use Rattle.portions.specs.Said.{said}
+use Rattle.portions.specs.Said.{Filling, said}
 
 -- after the table's checks 15: the workspace is too short; 16: progress above W
 abbrev pub own_rows : ℕ → ℕ → ℕ → List Row

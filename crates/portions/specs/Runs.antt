@@ -5,8 +5,7 @@ use Rattle.model.specs.Rules.{rounded_up}
 use Rattle.block.specs.Bytes.{Bytes}
 use Rattle.table.specs.Order.{Accepted}
 use Rattle.choices.specs.Tasks.{cells_of_table}
-use Rattle.portions.specs.declared.Filling.{Filling}
-use Rattle.portions.specs.Said.{said, InType}
+use Rattle.portions.specs.Said.{Filling, said, InType}
 use Rattle.portions.specs.Portion.{Portioned}
 
 -- a portion that was not refused: it answered the new progress q

@@ -1,30 +1,18 @@
 -- What a run of puts leaves: each goes on where the one before it ended. Assumes nothing.
-use Prim.Native.Nat.{ℕ, zero, suc, ◌+◌, ◌-◌, ◌*◌, ◌≤◌, ◌<◌}
-use native.Mathlib.Nat.{add_assoc, add-suc, add-zero}
+use Prim.Native.Nat.{ℕ, zero, suc, ◌+◌, ◌-◌, ◌*◌, ◌/◌, ◌%◌, ◌^◌, ◌≤◌, ◌<◌}
+use native.Mathlib.Nat.{add_assoc, add-zero, div-div-eq-div-mul, pow-suc}
 use native.Mathlib.Numerals.{add-one}
 use native.Mathlib.Omega.{arith}
-use mathlib.Core.Path.{◌≡◌, refl, ap, sym, ◌∙◌}
+use mathlib.Core.Path.{◌≡◌, refl, ap, ap₂, sym, ◌∙◌}
 use mathlib.Core.List.{List, [], ◌∷◌, ◌++◌, append_assoc, append-nil}
-use lib.ListN.{length, take, drop, get_or, set, replicate, length-append, length-take, length-drop, length-replicate, replicate-append-replicate, take-append-drop}
-use lib.Seq.{take_at, drop_at, drop-drop, sets, sets-eq}
+use lib.ListN.{length, take, drop, get_or, replicate, length-append, length-take, length-drop, take-append-drop}
+use lib.Seq.{take_at, drop_at, drop-drop}
+use borrow.Rule.Slice.PartMut.{put_mid}
+use Rattle.std.specs.Int.{bytes_low_first, byte_at}
 use Rattle.block.specs.Bytes.{as_bytes, laid}
 use Rattle.block.proofs.Laid.{Fit, total, length_bytes}
 use Rattle.puts.specs.inner.Puts.{over}
 
--- ---- byte by byte, as the code writes them: at, at + 1, at + 2
-abbrev stores : ℕ → List ℕ → ℕ → List ℕ → List ℕ
-stores k d at [] = d
-stores k d at (v ∷ vs) = stores (suc k) (set d (at + k) v) at vs
-
-stores_sets : (k : ℕ) (d : List ℕ) (at : ℕ) (vs : List ℕ) → stores k d at vs ≡ sets d (at + k) vs
-stores_sets k d at [] = refl
-stores_sets k d at (v ∷ vs) = rw (stores_sets (suc k) (set d (at + k) v) at vs, add-suc)
-
-pub stored : (d : List ℕ) (at v : ℕ) (vs : List ℕ) → at + length (v ∷ vs) ≤ length d → stores 1 (set d at v) at vs ≡ over d at (v ∷ vs)
-unfolding over
-stored d at v vs h = rw (stores_sets 1 (set d at v) at vs, add-one) (sets-eq (v ∷ vs) d at h)
-
--- ---- puts
 pub length_over : (d : List ℕ) (at : ℕ) (vs : List ℕ) → at + length vs ≤ length d → length (over d at vs) ≡ length d
 unfolding over
 length_over d at vs h = simp (length-append, length-take, length-drop) (omega arith)
@@ -43,6 +31,27 @@ over_over d at vs us n h e =
     rw (← drop-drop (length us) n, drop_at (take at d ++ vs) _ n l, drop-drop, length-append, add_assoc) in
     rw (front, far, append_assoc (take at d) vs us)
 
+-- the bytes of a number as the library has them
+le_bytes : (i w x : ℕ) → bytes_low_first i w x ≡ as_bytes w (x / 256 ^ i)
+unfolding as_bytes
+le_bytes i zero x = refl
+le_bytes i (suc w) x = ap₂ (λ b bs. b ∷ bs) (lowest i) (le_bytes (suc i) w x ∙ ap (as_bytes w) next)
+  where
+    lowest : (i : ℕ) → byte_at i x ≡ x / 256 ^ i % 256
+    lowest zero = omega arith
+    lowest (suc i) = refl
+
+    next : x / 256 ^ suc i ≡ x / 256 ^ i / 256
+    next = ap (λ d. x / d) (pow-suc 256 i) ∙ sym (div-div-eq-div-mul x (256 ^ i) 256)
+
+-- a number put as these bytes
+pub put_bytes : (w x at : ℕ) (d bs : List ℕ) → bs ≡ bytes_low_first 0 w x → put_mid at (at + w - at) d bs ≡ over d at (as_bytes w x)
+unfolding over
+put_bytes w x at d bs e =
+    let all : bs ≡ as_bytes w x = e ∙ le_bytes 0 w x ∙ ap (as_bytes w) (omega arith) in
+    let n : at + w - at ≡ w = omega arith in
+    rw (all, n) (simp (append_assoc, length_bytes, drop-drop))
+
 -- numbers, each put where the one before it ended
 abbrev pub overs : List ℕ → ℕ → List ℕ → List ℕ → List ℕ
 overs [] at xs d = d
@@ -59,17 +68,6 @@ overs_laid (w ∷ ws) (x ∷ xs) d at f h =
     let l : length (over d at (as_bytes w x)) ≡ length d = length_over d at (as_bytes w x) (omega arith) in
     rw (overs_laid ws xs (over d at (as_bytes w x)) (at + w) f.1 (omega arith), over_over d at (as_bytes w x) (laid ws xs) (at + w) (omega arith) n)
 
--- one more zero byte behind those put
-pub zero_more : (d : List ℕ) (from i : ℕ) → from ≤ i → i < length d → set (over d from (replicate (i - from) 0)) i 0 ≡ over d from (replicate (i + 1 - from) 0)
-zero_more d from i h k =
-    let n : i + 1 - from ≡ i - from + 1 = omega arith in
-    let e : from + length {A = ℕ} (replicate (i - from) 0) ≡ i = rw length-replicate (omega arith) in
-    let l : length (over d from (replicate (i - from) 0)) ≡ length d = length_over d from _ (omega arith) in
-    rw n
-    (stored (over d from (replicate (i - from) 0)) i 0 [] (omega arith)
-    ∙ over_over d from (replicate (i - from) 0) (0 ∷ []) i (omega arith) e
-    ∙ ap (over d from) (replicate-append-replicate (i - from) 1 0))
-
 -- one more number behind those put, 4 bytes each
 words_more : (i : ℕ) (xs : List ℕ) → i < length xs → laid (replicate (suc i) 4) (take (suc i) xs) ≡ laid (replicate i 4) (take i xs) ++ as_bytes 4 (get_or xs i 0)
 unfolding laid
@@ -77,7 +75,7 @@ words_more i [] h = absurd (omega arith)
 words_more zero (x ∷ xs) h = append-nil (as_bytes 4 x)
 words_more (suc i) (x ∷ xs) h = rw (words_more i xs (omega arith), append_assoc)
 
-pub length_words : (i : ℕ) (xs : List ℕ) → i ≤ length xs → length (laid (replicate i 4) (take i xs)) ≡ 4 * i
+length_words : (i : ℕ) (xs : List ℕ) → i ≤ length xs → length (laid (replicate i 4) (take i xs)) ≡ 4 * i
 unfolding laid
 length_words zero xs h = refl
 length_words (suc i) [] h = absurd (omega arith)

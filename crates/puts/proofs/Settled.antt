@@ -9,7 +9,7 @@ use Rattle.puts.proofs.fill_task.Kinds as fill_task_kinds
 use Rattle.puts.proofs.fill_task.Reads as fill_task_reads
 
 pub fill_header_one : One fill_header_kinds.ps fill_header_kinds.r fill_header_reads.Post
-fill_header_one κs a x y s t p q = (refl, ap (λ (d : List ℕ). (d, (tt, (tt, (tt, tt))))) (p ∙ sym q))
+fill_header_one κs a x y s t p q = (refl, ap (λ (d : List ℕ). (d, (tt, tt))) (p ∙ sym q))
 
 pub fill_task_one : One fill_task_kinds.ps fill_task_kinds.r fill_task_reads.Post
-fill_task_one κs a x y s t p q = (refl, ap (λ (d : List ℕ). (d, (tt, (tt, (tt, (tt, (tt, tt))))))) (p ∙ sym q))
+fill_task_one κs a x y s t p q = (refl, ap (λ (d : List ℕ). (d, (tt, (tt, (tt, tt))))) (p ∙ sym q))

@@ -1,37 +1,38 @@
 // Putting the numbers of a block into a lent buffer: its bytes, zero bytes and the check. No test is made here.
 #![tactic(auto)]
 
-ghost use Rattle.std.specs.Prelude.{◌≡◌, [], ◌∷◌, ◌++◌, ◌+◌, ◌-◌, ◌*◌, ◌≤◌, length, replicate, take, drop};
+ghost use Rattle.std.specs.Prelude.{◌≡◌, ◌+◌, ◌-◌, ◌*◌, ◌≤◌};
+ghost use Rattle.std.specs.Prelude.{[], ◌∷◌, ◌++◌, length, replicate, take, drop};
 ghost use Rattle.block.specs.Bytes.{as_bytes, laid};
 ghost use Rattle.block.specs.Whole.{sealed, header_bytes, task_bytes};
 ghost use Rattle.puts.specs.inner.Puts.{over, front_widths};
 
-use block::check_of;
+use block::{Header, Number, Task, check_of};
 
-// Puts a number at an offset, as 1, 2 or 4 bytes, least significant first.
-fn put8(out: &mut [u8], at: usize, x: u8)
-    requires { at + 1 ≤ length out.old }
-    ensures { out.new ≡ over out.old at (as_bytes 1 x) }
-{
-    out[at] = x;
+// A number as it is put: as 1, 2 or 4 bytes, least significant first.
+trait Put: Number {
+    // Puts it at an offset.
+    fn put(self, out: &mut [u8], at: usize)
+        requires { at + Self.width ≤ length out.old }
+        ensures { out.new ≡ over out.old at (as_bytes Self.width (Self.value self)) };
 }
 
-fn put16(out: &mut [u8], at: usize, x: u16)
-    requires { at + 2 ≤ length out.old }
-    ensures { out.new ≡ over out.old at (as_bytes 2 x) }
-{
-    out[at] = (x % 256) as u8;
-    out[at + 1] = (x / 256 % 256) as u8;
+impl Put for u8 {
+    fn put(self, out: &mut [u8], at: usize) {
+        out[at] = self;
+    }
 }
 
-fn put32(out: &mut [u8], at: usize, x: u32)
-    requires { at + 4 ≤ length out.old }
-    ensures { out.new ≡ over out.old at (as_bytes 4 x) }
-{
-    out[at] = (x % 256) as u8;
-    out[at + 1] = (x / 256 % 256) as u8;
-    out[at + 2] = (x / 256 / 256 % 256) as u8;
-    out[at + 3] = (x / 256 / 256 / 256 % 256) as u8;
+impl Put for u16 {
+    fn put(self, out: &mut [u8], at: usize) {
+        out[at..at + 2].copy_from_slice(&self.to_le_bytes());
+    }
+}
+
+impl Put for u32 {
+    fn put(self, out: &mut [u8], at: usize) {
+        out[at..at + 4].copy_from_slice(&self.to_le_bytes());
+    }
 }
 
 // Puts numbers of 32 bits one after the other from an offset on.
@@ -39,8 +40,8 @@ fn put_all(out: &mut [u8], at: usize, figures: &[u32])
     requires { at + 4 * length figures.now ≤ length out.old }
     ensures { out.new ≡ over out.old at (laid (replicate (length figures.now) 4) figures.now) }
 {
-    for i in 0..figures.len() {
-        put32(out, at + 4 * i, figures[i]);
+    for (i, figure) in figures.iter().enumerate() {
+        figure.put(out, at + 4 * i);
     }
 }
 
@@ -49,9 +50,7 @@ fn clear(out: &mut [u8], from: usize)
     requires { (from ≤ 508) × (508 ≤ length out.old) }
     ensures { out.new ≡ over out.old from (replicate (508 - from) 0) }
 {
-    for i in from..508 {
-        out[i] = 0;
-    }
+    out[from..508].fill(0);
 }
 
 // Closes a block whose bytes with a meaning end at an offset: zero bytes, and the check.
@@ -61,7 +60,7 @@ fn finish(out: &mut [u8], from: usize)
 {
     clear(out, from);
     let check = check_of(out);
-    put32(out, 508, check);
+    check.put(out, 508);
 }
 
 // The first 8 bytes of a block: kind, edition, n, m and zero of a header; kind, E, mode count with the zero byte behind it, permitted modes
@@ -70,36 +69,36 @@ fn put_front(out: &mut [u8], kind: u8, second: u8, third: u16, fourth: u16, fift
     requires { 8 ≤ length out.old }
     ensures { out.new ≡ over out.old 0 (laid front_widths (kind ∷ second ∷ third ∷ fourth ∷ fifth ∷ [])) }
 {
-    put8(out, 0, kind);
-    put8(out, 1, second);
-    put16(out, 2, third);
-    put16(out, 4, fourth);
-    put16(out, 6, fifth);
+    kind.put(out, 0);
+    second.put(out, 1);
+    third.put(out, 2);
+    fourth.put(out, 4);
+    fifth.put(out, 6);
 }
 
-// The header block, in the first 512 bytes of a buffer.
-pub fn fill_header(out: &mut [u8], tasks: u16, cores: u16, common: u32)
+// The header block, in the first 512 bytes of a buffer, which may be longer: an array of 512 would ask for more.
+pub fn fill_header(out: &mut [u8], header: Header)
     requires { 512 ≤ length out.old }
-    ensures { out.new ≡ header_bytes tasks cores common ++ drop 512 out.old }
+    ensures { out.new ≡ header_bytes header.tasks header.cores header.common ++ drop 512 out.old }
 {
-    put_front(out, 1, 1, tasks, cores, 0);
-    put32(out, 8, common);
+    put_front(out, 1, 1, header.tasks, header.cores, 0);
+    header.common.put(out, 8);
     finish(out, 12);
 }
 
 // A task block, in the first 512 bytes of a buffer.
-pub fn fill_task(
-    out: &mut [u8],
-    number: u16,
-    elasticity: u8,
-    modes: u8,
-    permitted: u16,
-    figures: &[u32],
-)
-    requires { (512 ≤ length out.old) × (modes ≤ 16) × (length figures.now ≡ 3 * modes) }
-    ensures { out.new ≡ task_bytes number elasticity modes permitted figures.now ++ drop 512 out.old }
+pub fn fill_task(out: &mut [u8], number: u16, task: Task, figures: &[u32])
+    requires { (512 ≤ length out.old) × (task.modes ≤ 16) × (length figures.now ≡ 3 * task.modes) }
+    ensures { out.new ≡ task_bytes number task.elasticity task.modes task.permitted figures.now ++ drop 512 out.old }
 {
-    put_front(out, 2, elasticity, modes as u16, permitted, number);
+    put_front(
+        out,
+        2,
+        task.elasticity,
+        task.modes as u16,
+        task.permitted,
+        number,
+    );
     put_all(out, 8, figures);
-    finish(out, 8 + 12 * modes as usize);
+    finish(out, 8 + 12 * task.modes as usize);
 }

@@ -1,6 +1,9 @@
 -- Each reply is settled, with all that the call leaves behind: the call's own promise settles its answer. Assumes nothing.
+use Prim.Native.Nat.{ℕ}
+use mathlib.Core.List.{List}
 use mathlib.Core.Path.{◌≡◌, sym, ap, ◌∙◌}
-use Rattle.answer.specs.Said.{Said}
+use Rattle.answer.proofs.Outcomes.{outcome_one}
+use Rattle.answer.specs.Said.{Said, said_of}
 use Rattle.answer.specs.One.{One}
 use Rattle.table.proofs.Settled as table_settled
 use Rattle.choices.proofs.Settled as choices_settled
@@ -8,8 +11,9 @@ use Rattle.writer.proofs.Settled as writer_settled
 use Rattle.portions.proofs.Settled as portions_settled
 use Rattle.taking.proofs.Settled as taking_settled
 use Rattle.whole.proofs.Settled as whole_settled
-use Rattle.table.specs.Said.{said as reading_said}
-use Rattle.choices.specs.Said.{said as choosing_said}
+use Rattle.table.specs.Said.{the_header, the_task}
+use Rattle.table.specs.Order.{figures_said}
+use Rattle.choices.specs.Said.{the_choice}
 use Rattle.writer.specs.Said.{said as written_said}
 use Rattle.portions.specs.Said.{said as filling_said}
 use Rattle.taking.specs.Said.{said as taken_said}
@@ -42,16 +46,16 @@ settled said one p q =
     (p.reply ∙ ap (λ a. reply_of (said a)) e.0 ∙ sym q.reply, e.1)
 
 pub check_one : One check_kinds.ps check_kinds.r check_reads.Post
-check_one κs a x y s t = settled reading_said (λ b c. table_settled.check_one κs a b c s t)
+check_one κs a x y s t = settled (said_of the_header) (λ b c. table_settled.check_one κs a b c s t)
 
 pub ask_task_one : One ask_task_kinds.ps ask_task_kinds.r ask_task_reads.Post
-ask_task_one κs a x y s t = settled reading_said (λ b c. table_settled.ask_task_one κs a b c s t)
+ask_task_one κs a x y s t = settled (said_of the_task) (λ b c. table_settled.ask_task_one κs a b c s t)
 
 pub ask_mode_one : One ask_mode_kinds.ps ask_mode_kinds.r ask_mode_reads.Post
-ask_mode_one κs a x y s t = settled reading_said (λ b c. table_settled.ask_mode_one κs a b c s t)
+ask_mode_one κs a x y s t = settled (said_of figures_said) (λ b c. table_settled.ask_mode_one κs a b c s t)
 
 pub ask_choice_one : One ask_choice_kinds.ps ask_choice_kinds.r ask_choice_reads.Post
-ask_choice_one κs a x y s t = settled choosing_said (λ b c. choices_settled.ask_choice_one κs a b c s t)
+ask_choice_one κs a x y s t = settled (said_of the_choice) (λ b c. choices_settled.ask_choice_one κs a b c s t)
 
 pub portion_one : One portion_kinds.ps portion_kinds.r portion_reads.Post
 portion_one κs a x y s t = settled filling_said (λ b c. portions_settled.portion_one κs a b c s t)
@@ -60,10 +64,14 @@ pub take_one : One take_kinds.ps take_kinds.r take_reads.Post
 take_one κs a x y s t = settled taken_said (λ b c. taking_settled.take_one κs a b c s t)
 
 pub write_header_one : One write_header_kinds.ps write_header_kinds.r write_header_reads.Post
-write_header_one κs a x y s t = settled written_said (λ b c. writer_settled.write_header_one κs a b c s t)
+write_header_one κs a x y s t =
+    settled written_said
+    (λ b c p q. let o = outcome_one p q in (writer_settled.one_answer b c o.0, ap (λ (d : List ℕ). (tt, (tt, (tt, (d, tt))))) o.1))
 
 pub write_task_one : One write_task_kinds.ps write_task_kinds.r write_task_reads.Post
-write_task_one κs a x y s t = settled written_said (λ b c. writer_settled.write_task_one κs a b c s t)
+write_task_one κs a x y s t =
+    settled written_said
+    (λ b c p q. let o = outcome_one p q in (writer_settled.one_answer b c o.0, ap (λ (d : List ℕ). (tt, (tt, (tt, (tt, (tt, (tt, (d, tt)))))))) o.1))
 
 pub plan_whole_one : One plan_whole_kinds.ps plan_whole_kinds.r plan_whole_reads.Post
 plan_whole_one κs a x y s t = settled taken_said (λ b c. whole_settled.plan_whole_one κs a b c s t)

@@ -2,160 +2,177 @@
 #![tactic(auto)]
 
 ghost use Rattle.std.specs.Prelude.{◌≡◌};
-ghost use Rattle.answer.specs.Said.{refused};
-ghost use Rattle.table.specs.Said.{said as reading_said};
-ghost use Rattle.table.specs.Order.{table_said, ask_task_said, ask_mode_said};
-ghost use Rattle.choices.specs.Said.{said as choosing_said, ask_choice_said};
+ghost use Rattle.answer.specs.Said.{Said, filled, written, said_of};
+ghost use Rattle.table.specs.Said.{the_header, the_task};
+ghost use Rattle.table.specs.Order.{figures_said, table_said, ask_task_said, ask_mode_said};
+ghost use Rattle.choices.specs.Said.{the_choice, ask_choice_said};
 ghost use Rattle.writer.specs.Said.{said as written_said};
 ghost use Rattle.writer.specs.Order.{WroteHeader, WroteTask};
 ghost use Rattle.portions.specs.Said.{said as filling_said};
 ghost use Rattle.portions.specs.Portion.{Portioned};
-ghost use Rattle.taking.specs.Said.{said as taken_said};
+ghost use Rattle.taking.specs.Said.{the_plan, said as taken_said};
 ghost use Rattle.taking.specs.Take.{TookPlan};
 ghost use Rattle.whole.specs.Whole.{PlannedWhole};
-ghost use Rattle.shunguleta.specs.Reply.{given, reply_of, Replied};
+ghost use Rattle.shunguleta.specs.Reply.{reply_of, Replied};
 
 use answer::Refusal;
-use choices::Choosing;
-use portions::Filling;
-use table::Reading;
-use taking::Taken;
-use writer::Written;
+use block::{Header, Task};
+use choices::Choice;
+use model::Figures;
+use taking::Plan;
 
 // An answer: a refusal's number and place; or number 0, and the call's values in their order, 0 for the rest.
 #[repr(C)]
-#[derive(Drop)]
+#[derive(Clone, Copy, Debug, PartialEq, Eq)]
 pub struct Reply {
     pub number: u32,
     pub at: u32,
     pub values: [u64; 3],
 }
 
-fn of_refusal(refusal: Refusal) -> Reply
-    ensures { result ≡ reply_of (refused refusal.number refusal.at) }
-{
-    Reply {
-        number: refusal.number as u32,
-        at: refusal.at,
-        values: [0, 0, 0],
+// What a call gives where it is not refused, as a reply's values.
+trait Given: Sized {
+    ghost says: { Self → Said };
+
+    fn values(self) -> [u64; 3]
+        ensures { reply_of (says self) ≡ record { number = 0; at = 0; values = result } };
+}
+
+impl Given for Header {
+    ghost says = { the_header };
+
+    fn values(self) -> [u64; 3] {
+        [
+            u64::from(self.tasks),
+            u64::from(self.cores),
+            u64::from(self.common),
+        ]
     }
 }
 
-fn of_values(first: u64, second: u64, third: u64) -> Reply
-    ensures { result ≡ given first second third }
-{
-    Reply {
-        number: 0,
-        at: 0,
-        values: [first, second, third],
+impl Given for Task {
+    ghost says = { the_task };
+
+    fn values(self) -> [u64; 3] {
+        [
+            u64::from(self.elasticity),
+            u64::from(self.modes),
+            u64::from(self.permitted),
+        ]
     }
 }
 
-// What each kind of answer says, as a reply.
-fn of_reading(got: Reading) -> Reply
-    ensures { result ≡ reply_of (reading_said got) }
-{
-    match got {
-        Reading::Refused(refusal) => of_refusal(refusal),
-        Reading::Header {
-            tasks,
-            cores,
-            common,
-        } => of_values(tasks as u64, cores as u64, common as u64),
-        Reading::Task {
-            elasticity,
-            modes,
-            permitted,
-        } => of_values(elasticity as u64, modes as u64, permitted as u64),
-        Reading::Figures { work, span, period } => of_values(
-            work as u64,
-            span as u64,
-            period as u64,
-        ),
+impl Given for Figures {
+    ghost says = { figures_said };
+
+    fn values(self) -> [u64; 3] {
+        [
+            u64::from(self.work),
+            u64::from(self.span),
+            u64::from(self.period),
+        ]
     }
 }
 
-fn of_choosing(got: Choosing) -> Reply
-    ensures { result ≡ reply_of (choosing_said got) }
-{
-    match got {
-        Choosing::Refused(refusal) => of_refusal(refusal),
-        Choosing::Choice {
-            permitted,
-            cores,
-            cost,
-        } => of_values(permitted as u64, cores as u64, cost),
+impl Given for Choice {
+    ghost says = { the_choice };
+
+    fn values(self) -> [u64; 3] {
+        [u64::from(self.permitted), u64::from(self.cores), self.cost]
     }
 }
 
-fn of_filling(got: Filling) -> Reply
-    ensures { result ≡ reply_of (filling_said got) }
-{
-    match got {
-        Filling::Refused(refusal) => of_refusal(refusal),
-        Filling::Filled(progress) => of_values(progress as u64, 0, 0),
+// A new progress.
+impl Given for u32 {
+    ghost says = { filled };
+
+    fn values(self) -> [u64; 3] {
+        [u64::from(self), 0, 0]
     }
 }
 
-fn of_taken(got: Taken) -> Reply
-    ensures { result ≡ reply_of (taken_said got) }
-{
-    match got {
-        Taken::Refused(refusal) => of_refusal(refusal),
-        Taken::Plan { cores, cost } => of_values(cores as u64, cost, 0),
+impl Given for Plan {
+    ghost says = { the_plan };
+
+    fn values(self) -> [u64; 3] {
+        [u64::from(self.cores), self.cost, 0]
     }
 }
 
-fn of_written(got: Written) -> Reply
-    ensures { result ≡ reply_of (written_said got) }
-{
-    match got {
-        Written::Refused(refusal) => of_refusal(refusal),
-        Written::Done => of_values(0, 0, 0),
+// A block is written.
+impl Given for () {
+    ghost says = { λ x. written };
+
+    fn values(self) -> [u64; 3] {
+        [0, 0, 0]
     }
 }
 
-// The calls, each with the promise of the one that it makes.
+impl<T: Given> From<Result<T, Refusal>> for Reply {
+    ghost from_gives = { λ answer reply. reply ≡ reply_of (said_of T.says answer) };
+
+    fn from(answer: Result<T, Refusal>) -> Reply {
+        match answer {
+            Ok(given) => Reply {
+                number: 0,
+                at: 0,
+                values: given.values(),
+            },
+            Err(refusal) => Reply {
+                number: u32::from(refusal.reason.number()),
+                at: refusal.at,
+                values: [0, 0, 0],
+            },
+        }
+    }
+}
+
+// The calls, each with the promise of the one that it makes, and its numbers one by one as C has them.
 pub fn shunguleta_check(table: &[u8]) -> Reply
-    ensures { Replied reading_said (λ answer. reading_said answer ≡ table_said table.now) result }
+    ensures { Replied (said_of the_header) (λ answer. said_of the_header answer ≡ table_said table.now) result }
 {
-    of_reading(table::check(table))
+    Reply::from(table::check(table))
 }
 
 pub fn shunguleta_ask_task(table: &[u8], task: u32) -> Reply
-    ensures { Replied reading_said (λ answer. reading_said answer ≡ ask_task_said table.now task) result }
+    ensures { Replied (said_of the_task) (λ answer. said_of the_task answer ≡ ask_task_said table.now task) result }
 {
-    of_reading(table::ask_task(table, task))
+    Reply::from(table::ask_task(table, task))
 }
 
 pub fn shunguleta_ask_mode(table: &[u8], task: u32, mode: u32) -> Reply
-    ensures { Replied reading_said (λ answer. reading_said answer ≡ ask_mode_said table.now task mode) result }
+    ensures { Replied (said_of figures_said) (λ answer. said_of figures_said answer ≡ ask_mode_said table.now task mode) result }
 {
-    of_reading(table::ask_mode(table, task, mode))
+    Reply::from(table::ask_mode(table, task, mode))
 }
 
 pub fn shunguleta_ask_choice(table: &[u8], task: u32, mode: u32) -> Reply
-    ensures { Replied choosing_said (λ answer. choosing_said answer ≡ ask_choice_said table.now task mode) result }
+    ensures { Replied (said_of the_choice) (λ answer. said_of the_choice answer ≡ ask_choice_said table.now task mode) result }
 {
-    of_choosing(choices::ask_choice(table, task, mode))
+    Reply::from(choices::ask_choice(table, task, mode))
 }
 
 pub fn shunguleta_portion(table: &[u8], cells: &mut [u64], progress: u32, budget: u32) -> Reply
     ensures { Replied filling_said (λ answer. Portioned table.now cells.old progress budget answer cells.new) result }
 {
-    of_filling(portions::portion(table, cells, progress, budget))
+    Reply::from(portions::portion(table, cells, progress, budget))
 }
 
 pub fn shunguleta_take(table: &[u8], cells: &[u64], progress: u32, out: &mut [u8]) -> Reply
     ensures { Replied taken_said (λ answer. TookPlan table.now cells.now progress out.old answer out.new) result }
 {
-    of_taken(taking::take(table, cells, progress, out))
+    Reply::from(taking::take(table, cells, progress, out))
 }
 
 pub fn shunguleta_write_header(tasks: u16, cores: u16, common: u32, out: &mut [u8]) -> Reply
     ensures { Replied written_said (λ answer. WroteHeader tasks cores common out.old answer out.new) result }
 {
-    of_written(writer::write_header(tasks, cores, common, out))
+    let header = Header {
+        tasks,
+        cores,
+        common,
+    };
+    Reply::from(writer::write_header(header, out))
 }
 
 pub fn shunguleta_write_task(
@@ -167,13 +184,19 @@ pub fn shunguleta_write_task(
     figures: &[u32],
     out: &mut [u8],
 ) -> Reply
-    ensures { Replied written_said (λ answer. WroteTask common number elasticity modes permitted figures.now out.old answer out.new) result }
+    ensures { Replied written_said
+        (λ answer. WroteTask common number elasticity modes permitted figures.now out.old answer out.new) result }
 {
-    of_written(writer::write_task(common, number, elasticity, modes, permitted, figures, out))
+    let task = Task {
+        elasticity,
+        modes,
+        permitted,
+    };
+    Reply::from(writer::write_task(common, number, task, figures, out))
 }
 
 pub fn shunguleta_plan_whole(table: &[u8], cells: &mut [u64], out: &mut [u8]) -> Reply
     ensures { Replied taken_said (λ answer. PlannedWhole table.now cells.old out.old answer cells.new out.new) result }
 {
-    of_taken(whole::plan_whole(table, cells, out))
+    Reply::from(whole::plan_whole(table, cells, out))
 }

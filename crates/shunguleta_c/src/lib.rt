@@ -1,10 +1,12 @@
-// The calls for C and Rust: those of `shunguleta` under their own symbols, with slices as pointer and length. No rule of its own.
+// The calls for C and Rust: those of `shunguleta` under their own symbols, with slices as pointer and length. No rule of its own, and
+// no call is generic: C knows each by its symbol and its numbers.
 #![tactic(auto)]
 
 ghost use Rattle.std.specs.Prelude.{◌≡◌};
-ghost use Rattle.table.specs.Said.{said as reading_said};
-ghost use Rattle.table.specs.Order.{table_said, ask_task_said, ask_mode_said};
-ghost use Rattle.choices.specs.Said.{said as choosing_said, ask_choice_said};
+ghost use Rattle.answer.specs.Said.{said_of};
+ghost use Rattle.table.specs.Said.{the_header, the_task};
+ghost use Rattle.table.specs.Order.{figures_said, table_said, ask_task_said, ask_mode_said};
+ghost use Rattle.choices.specs.Said.{the_choice, ask_choice_said};
 ghost use Rattle.writer.specs.Said.{said as written_said};
 ghost use Rattle.writer.specs.Order.{WroteHeader, WroteTask};
 ghost use Rattle.portions.specs.Said.{said as filling_said};
@@ -18,28 +20,28 @@ use shunguleta::Reply;
 
 #[unsafe(no_mangle)]
 pub extern "C" fn shunguleta_check(table: &[u8]) -> Reply
-    ensures { Replied reading_said (λ answer. reading_said answer ≡ table_said table.now) result }
+    ensures { Replied (said_of the_header) (λ answer. said_of the_header answer ≡ table_said table.now) result }
 {
     shunguleta::shunguleta_check(table)
 }
 
 #[unsafe(no_mangle)]
 pub extern "C" fn shunguleta_ask_task(table: &[u8], task: u32) -> Reply
-    ensures { Replied reading_said (λ answer. reading_said answer ≡ ask_task_said table.now task) result }
+    ensures { Replied (said_of the_task) (λ answer. said_of the_task answer ≡ ask_task_said table.now task) result }
 {
     shunguleta::shunguleta_ask_task(table, task)
 }
 
 #[unsafe(no_mangle)]
 pub extern "C" fn shunguleta_ask_mode(table: &[u8], task: u32, mode: u32) -> Reply
-    ensures { Replied reading_said (λ answer. reading_said answer ≡ ask_mode_said table.now task mode) result }
+    ensures { Replied (said_of figures_said) (λ answer. said_of figures_said answer ≡ ask_mode_said table.now task mode) result }
 {
     shunguleta::shunguleta_ask_mode(table, task, mode)
 }
 
 #[unsafe(no_mangle)]
 pub extern "C" fn shunguleta_ask_choice(table: &[u8], task: u32, mode: u32) -> Reply
-    ensures { Replied choosing_said (λ answer. choosing_said answer ≡ ask_choice_said table.now task mode) result }
+    ensures { Replied (said_of the_choice) (λ answer. said_of the_choice answer ≡ ask_choice_said table.now task mode) result }
 {
     shunguleta::shunguleta_ask_choice(table, task, mode)
 }
@@ -90,7 +92,8 @@ pub extern "C" fn shunguleta_write_task(
     figures: &[u32],
     out: &mut [u8],
 ) -> Reply
-    ensures { Replied written_said (λ answer. WroteTask common number elasticity modes permitted figures.now out.old answer out.new) result }
+    ensures { Replied written_said
+        (λ answer. WroteTask common number elasticity modes permitted figures.now out.old answer out.new) result }
 {
     shunguleta::shunguleta_write_task(common, number, elasticity, modes, permitted, figures, out)
 }

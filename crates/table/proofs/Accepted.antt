@@ -12,12 +12,14 @@ use Rattle.answer.proofs.Rows.{none_append, none_first, first_none}
 use Rattle.answer.proofs.Elses.{passed, answered}
 use Rattle.model.specs.Turns.{each_from}
 use Rattle.block.specs.Bytes.{Bytes}
+use Rattle.block.specs.declared.Header.{Header}
 use Rattle.block.specs.Layout.{tasks_in, cores_in, common_in, modes_in, task_number_in, figures_in}
 use Rattle.block.specs.Tests.{figure_rows, modes_rows}
 use Rattle.block.proofs.Laid.{number_small}
+use Rattle.table.specs.Said.{the_header}
 use Rattle.table.specs.Order.{header_block, task_block, header_rows, header_said, task_rows, whole_task_rows, other_length, front_rows, tasks_rows, table_rows, table_said}
 use Rattle.table.specs.Numbers.{task_numbers_in, numbers_in}
-use Rattle.table.specs.inner.Accepted.{LawfulTable, LawfulWith}
+use Rattle.table.specs.inner.Accepted.{LawfulTable, LawfulWith, Plannable}
 use Rattle.table.proofs.Blocks.{bytes_block}
 use Rattle.table.proofs.Limits.{is, header_lawful, task_lawful, figures_lawful}
 
@@ -91,7 +93,7 @@ module _ (bytes : List ℕ) where
   pub accepted_none : (table_said bytes ≡ header_said (header_block bytes)) ↔ NoneGiven (table_rows bytes)
   accepted_none = (answered_none, none_first (table_rows bytes) (header_said (header_block bytes)))
 
--- for a caller past its `let .. else` on `check`: the table is lawful, and the numbers that its pattern bound are the table's
+-- for a caller past its `?` on `check`: the table is lawful, and the numbers that it answered are the table's
 pub accepted_with : (bytes : List ℕ) (n m H : ℕ) → Bytes bytes → header n m H ≡ table_said bytes → LawfulWith bytes n m H
 accepted_with bytes n m H b q =
     let none = passed (table_rows bytes) (header_said (header_block bytes)) (λ z. omega (arith, z)) q in
@@ -100,3 +102,19 @@ accepted_with bytes n m H b q =
     let cores : (numbers_in bytes).cores ≡ m = cc in
     let common : (numbers_in bytes).common ≡ H = cc in
     record { table = lawful bytes b none; tasks = tasks; cores = cores; common = common }
+
+-- and so it can be planned over
+pub plannable : {bytes : List ℕ} {n m H : ℕ} → LawfulWith bytes n m H → Plannable bytes n m H
+plannable {bytes} {n} {m} {H} w =
+    let l = w.table.numbers in
+    record {
+      tasks = w.tasks;
+      cores = w.cores;
+      common = w.common;
+      header = rw (← w.tasks, ← w.cores, ← w.common) l.header;
+      few = λ i h. (l.task i (rw w.tasks h)).modes_high;
+      mode = λ i j h g. rw (← w.common) (l.mode i j (rw w.tasks h) g);
+    }
+
+pub plans : (bytes : List ℕ) (h : Header) → Bytes bytes → the_header h ≡ table_said bytes → Plannable bytes h.tasks h.cores h.common
+plans bytes h b q = plannable (accepted_with bytes h.tasks h.cores h.common b q)

@@ -8,7 +8,8 @@ use lib.ListN.{length}
 use Rattle.answer.specs.Order.{row, NoneGiven}
 use Rattle.answer.proofs.Rows.{append_none, none_first}
 use Rattle.model.specs.Turns.{each_from}
-use Rattle.block.specs.Layout.{tasks_in, common_in, modes_in, Figures, figures_in}
+use Rattle.model.specs.declared.Figures.{Figures}
+use Rattle.block.specs.Layout.{tasks_in, common_in, modes_in, figures_in}
 use Rattle.block.specs.Tests.{figure_rows, modes_rows}
 use Rattle.block.proofs.Figures.{flat_same}
 use Rattle.block.proofs.Round.{HoldsHeader, HoldsTask}

@@ -1,4 +1,3 @@
-pub mod Readings
 pub mod Blocks
 pub mod Rows
 pub mod Limits

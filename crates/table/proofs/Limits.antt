@@ -11,7 +11,7 @@ use Rattle.answer.specs.Order.{NoneGiven}
 use Rattle.answer.proofs.Bools.{clash, or_false}
 use Rattle.model.specs.Limits.{most_tasks, most_cores}
 use Rattle.model.specs.Rules.{meets}
-use Rattle.block.specs.Layout.{Figures}
+use Rattle.model.specs.declared.Figures.{Figures}
 use Rattle.block.specs.Tests.{outside, wrong_common, wrong_limits, wrong_shape, allows, any_allowed, wrong_permitted, wrong_period, wrong_work, figure_rows}
 use Rattle.block.proofs.Figures.{Small}
 use Rattle.block.proofs.Masks.{allows_none, Allowed, any_found, any_none, any_is, any_are_not}

@@ -1,13 +1,14 @@
 -- The numbers and places of a table's refusals, and that they fit a reading. Assumes nothing.
-use Prim.Native.Nat.{ℕ, zero, suc, ◌+◌, ◌≤◌, ◌<◌, ◌^◌}
+use Prim.Native.Nat.{ℕ, zero, suc, ◌+◌, ◌≤◌, ◌<◌}
 use native.Mathlib.Omega.{arith}
 use mathlib.Core.List.{List, [], ◌∷◌, ◌++◌}
 use lib.Dec.{leb}
 use Rattle.answer.specs.Order.{Row, row, OneOf}
-use Rattle.answer.proofs.Each.{Each, each_append, Fits, fits_front, one_below}
+use Rattle.answer.proofs.Each.{Each, each_append, Fits, fits_front, one_known}
 use Rattle.model.specs.Turns.{each_from}
 use Rattle.block.specs.Bytes.{Bytes}
-use Rattle.block.specs.Layout.{tasks_in, common_in, modes_in, Figures, figures_in}
+use Rattle.model.specs.declared.Figures.{Figures}
+use Rattle.block.specs.Layout.{tasks_in, common_in, modes_in, figures_in}
 use Rattle.block.specs.Tests.{figure_rows, modes_rows}
 use Rattle.block.proofs.Laid.{number_small}
 use Rattle.table.specs.Order.{header_block, task_block, header_rows, task_rows, whole_task_rows, other_length, front_rows, tasks_rows, table_rows, ask_task_rows, ask_mode_rows}
@@ -80,4 +81,4 @@ module _ (bytes : List ℕ) (b : Bytes bytes) where
 
   pub task_fits : (i k : ℕ) → i < (numbers_in bytes).tasks → OneOf task_numbers k → Fits k (i + 1)
   task_fits i k h one =
-      (one_below (2 ^ 8) task_numbers tt k one, omega (arith, number_small 2 2 (header_block bytes) (bytes_block 0 bytes b)))
+      (one_known task_numbers tt k one, omega (arith, number_small 2 2 (header_block bytes) (bytes_block 0 bytes b)))

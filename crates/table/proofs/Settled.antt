@@ -1,29 +1,39 @@
 -- Each public promise settles its outcome: at most one is allowed, and of the calls at least one. Assumes nothing.
 use Prim.Native.Nat.{ℕ, ◌+◌, ◌*◌, ◌^◌, ◌<◌}
 use native.Mathlib.Omega.{arith}
-use mathlib.Core.List.{List, []}
-use mathlib.Core.Path.{◌≡◌, refl, sym, ◌∙◌}
-use Rattle.answer.specs.Said.{Said}
-use Rattle.answer.specs.Order.{Row, first, NoneGiven}
+use mathlib.Core.List.{List}
+use mathlib.Core.Path.{◌≡◌, refl, sym, ap, ◌∙◌}
+use Rattle.std.specs.Prelude.{Result, Ok}
+use Rattle.answer.specs.Said.{said_of}
 use Rattle.answer.specs.One.{One, OneSeen, AtLeastOne}
+use Rattle.answer.proofs.Rows.{numbers}
+use Rattle.answer.proofs.Settled.{said_one}
+use Rattle.answer.specs.declared.Refusal.{Refusal}
 use Rattle.answer.proofs.Pair.{pair}
-use Rattle.answer.proofs.Each.{Each, Fits, some}
+use Rattle.model.specs.declared.Figures.{Figures}
+use Rattle.block.specs.declared.Header.{Header}
+use Rattle.block.specs.declared.Task.{Task}
+use Rattle.answer.proofs.Each.{Fits}
+use Rattle.answer.proofs.Held.{Held, some_answer}
+use Rattle.model.specs.contracts.Figures as figures
+use Rattle.model.proofs.Figures.TheLaws as figures_laws
+use Rattle.block.specs.contracts.Header as header
+use Rattle.block.proofs.Header.TheLaws as header_laws
+use Rattle.block.specs.contracts.Task as task
+use Rattle.block.proofs.Task.TheLaws as task_laws
 use Rattle.block.specs.Bytes.{Bytes, number}
+use Rattle.block.specs.Layout.{header_in, task_in, figures_in}
 use Rattle.block.proofs.Laid.{number_small}
-use Rattle.table.specs.declared.Reading.{Reading}
-use Rattle.table.specs.declared.Reading.TheVariants.{Refused, Header, Task, Figures}
-use Rattle.table.specs.Said.{said}
+use Rattle.table.specs.Said.{the_header, the_task}
 use Rattle.table.specs.Order.{block_at, header_block, task_block, header_said, task_said, figures_said, table_rows, ask_task_rows, ask_mode_rows, table_said, ask_task_said, ask_mode_said}
-use Rattle.table.specs.Numbers.{numbers_in}
-use Rattle.table.proofs.Readings.{one_reading, Held, held_refusal, held_header, held_task_lem, held_figures}
 use Rattle.table.proofs.Blocks.{bytes_block}
 use Rattle.table.proofs.Refusals.{front_fits, task_fits, each_table, each_ask_task, each_ask_mode}
-use Rattle.table.proofs.refusal_of.Kinds as refusal_of_kinds
-use Rattle.table.proofs.refusal_of.Reads as refusal_of_reads
 use Rattle.table.proofs.task_block.Kinds as task_block_kinds
 use Rattle.table.proofs.task_block.Reads as task_block_reads
 use Rattle.table.proofs.test_figures.Kinds as test_figures_kinds
 use Rattle.table.proofs.test_figures.Reads as test_figures_reads
+use Rattle.table.proofs.checked.Checked.cell_count.Kinds as cell_count_kinds
+use Rattle.table.proofs.checked.Checked.cell_count.Reads as cell_count_reads
 use Rattle.table.proofs.check.Kinds as check_kinds
 use Rattle.table.proofs.check.Reads as check_reads
 use Rattle.table.proofs.ask_task.Kinds as ask_task_kinds
@@ -31,64 +41,77 @@ use Rattle.table.proofs.ask_task.Reads as ask_task_reads
 use Rattle.table.proofs.ask_mode.Kinds as ask_mode_kinds
 use Rattle.table.proofs.ask_mode.Reads as ask_mode_reads
 
-pub refusal_of_one : One refusal_of_kinds.ps refusal_of_kinds.r refusal_of_reads.Post
-refusal_of_one κs a x y s t p q = (p ∙ sym q, refl)
-
 -- where the part stands and its bytes; the reference's ghost name is a new one at each call
 pub task_block_one : OneSeen {A = λ κs. (ℕ × ℕ) × List ℕ} task_block_kinds.ps task_block_kinds.r (λ κs x. (x.ref_ptr, x.now)) task_block_reads.Post
 task_block_one κs a x y s t p q =
     (pair (pair (p.whose ∙ sym q.whose) (p.place ∙ sym q.place)) (p.bytes ∙ sym q.bytes), refl)
 
+-- what is said of the numbers is the whole of them
+pub header_same : (x y : Header) → the_header x ≡ the_header y → x ≡ y
+header_same x y e = ap (λ s. record { tasks = (numbers s).0; cores = (numbers s).1; common = (numbers s).2 }) e
+
+pub task_same : (x y : Task) → the_task x ≡ the_task y → x ≡ y
+task_same x y e = ap (λ s. record { elasticity = (numbers s).0; modes = (numbers s).1; permitted = (numbers s).2 }) e
+
+pub figures_same : (x y : Figures) → figures_said x ≡ figures_said y → x ≡ y
+figures_same x y e = ap (λ s. record { work = (numbers s).0; span = (numbers s).1; period = (numbers s).2 }) e
+
 pub test_figures_one : One test_figures_kinds.ps test_figures_kinds.r test_figures_reads.Post
-test_figures_one κs a x y s t p q = (one_reading x y p q, refl)
+test_figures_one κs a x y s t p q = (said_one figures_said figures_same (λ f z. omega (arith, z)) x y (p ∙ sym q), refl)
+
+pub cell_count_one : One cell_count_kinds.ps cell_count_kinds.r cell_count_reads.Post
+cell_count_one κs a x y s t p q = (p ∙ sym q, refl)
 
 pub check_one : One check_kinds.ps check_kinds.r check_reads.Post
-check_one κs a x y s t p q = (one_reading x y p q, refl)
+check_one κs a x y s t p q = (said_one the_header header_same (λ h z. omega (arith, z)) x y (p ∙ sym q), refl)
 
 pub ask_task_one : One ask_task_kinds.ps ask_task_kinds.r ask_task_reads.Post
-ask_task_one κs a x y s t p q = (one_reading x y p q, refl)
+ask_task_one κs a x y s t p q = (said_one the_task task_same (λ h z. omega (arith, z)) x y (p ∙ sym q), refl)
 
 pub ask_mode_one : One ask_mode_kinds.ps ask_mode_kinds.r ask_mode_reads.Post
-ask_mode_one κs a x y s t p q = (one_reading x y p q, refl)
+ask_mode_one κs a x y s t p q = (said_one figures_said figures_same (λ f z. omega (arith, z)) x y (p ∙ sym q), refl)
 
 -- ---- at least one
--- a reading for every refusal, and for the rest where no row is given
-reading_some : (A : List Row) (rest : Said) → Each Fits A → (NoneGiven A → (r : Reading) × Held r × (said r ≡ rest))
-    → (r : Reading) × Held r × (said r ≡ first A rest)
-reading_some A rest each answers =
-    let o = some Fits said Held A rest [] [] each (λ k at f. (Refused (record { number = k; at = at }), held_refusal k at f.0 f.1, refl)) answers in
-    (o.answer, o.held, o.allowed.says)
-
 module _ (bytes : List ℕ) (b : Bytes bytes) where
   -- a number of w bytes fits them
   fits : (w at block : ℕ) → number w at (block_at block bytes) < 256 ^ w
   fits w at block = number_small w at (block_at block bytes) (bytes_block block bytes b)
 
-  some_header : (r : Reading) × Held r × (said r ≡ table_said bytes)
+  some_header : (x : Result Header Refusal) × Held header.the_row header_laws.the_row_laws header_laws.the_told x × (said_of the_header x ≡ table_said bytes)
   some_header =
-      let t = numbers_in bytes in
-      reading_some (table_rows bytes) (header_said (header_block bytes)) (each_table Fits bytes (front_fits bytes b) (task_fits bytes b))
-      (λ none. (Header t.tasks t.cores t.common, held_header t.tasks t.cores t.common (fits 2 2 0) (fits 2 4 0) (fits 4 8 0), refl))
-
-  some_task : (i : ℕ) → (r : Reading) × Held r × (said r ≡ ask_task_said bytes i)
-  some_task i =
-      let t = (numbers_in bytes).task i in
-      reading_some (ask_task_rows bytes i) (task_said (task_block bytes i))
-      (each_ask_task Fits bytes (front_fits bytes b) (task_fits bytes b) (omega arith, omega arith) i)
+      some_answer header.the_row header_laws.the_row_laws header_laws.the_told the_header (table_rows bytes) (header_said (header_block bytes))
+      (each_table Fits bytes (front_fits bytes b) (task_fits bytes b))
       (λ none. (
-        Task t.elasticity t.modes t.permitted,
-        held_task_lem t.elasticity t.modes t.permitted (fits 1 1 (i + 1)) (fits 1 2 (i + 1)) (fits 2 4 (i + 1)),
+        Ok (header_in (header_block bytes)),
+        (_, (refl, (_, (refl, ((_, (refl, ((refl, fits 2 2 0), ((refl, fits 2 4 0), ((refl, fits 4 8 0), tt))))), tt))))),
         refl,
       ))
 
-  some_mode : (i j : ℕ) → (r : Reading) × Held r × (said r ≡ ask_mode_said bytes i j)
-  some_mode i j =
-      let f = ((numbers_in bytes).task i).figures j in
-      reading_some (ask_mode_rows bytes i j) (figures_said f)
-      (each_ask_mode Fits bytes (front_fits bytes b) (task_fits bytes b) (omega arith, omega arith) i j)
+  some_task : (i : ℕ) → (x : Result Task Refusal) × Held task.the_row task_laws.the_row_laws task_laws.the_told x × (said_of the_task x ≡ ask_task_said bytes i)
+  some_task i =
+      some_answer task.the_row task_laws.the_row_laws task_laws.the_told the_task (ask_task_rows bytes i) (task_said (task_block bytes i))
+      (each_ask_task Fits bytes (front_fits bytes b) (task_fits bytes b) (refl, omega arith) i)
       (λ none. (
-        Figures f.work f.span f.period,
-        held_figures f.work f.span f.period (fits 4 (8 + 12 * j) (i + 1)) (fits 4 (12 + 12 * j) (i + 1)) (fits 4 (16 + 12 * j) (i + 1)),
+        Ok (task_in (task_block bytes i)),
+        (_, (refl, (_, (refl, ((_, (refl, ((refl, fits 1 1 (i + 1)), ((refl, fits 1 2 (i + 1)), ((refl, fits 2 4 (i + 1)), tt))))), tt))))),
+        refl,
+      ))
+
+  some_mode : (i j : ℕ)
+      → (x : Result Figures Refusal) × Held figures.the_row figures_laws.the_row_laws figures_laws.the_told x × (said_of figures_said x ≡ ask_mode_said bytes i j)
+  some_mode i j =
+      some_answer figures.the_row figures_laws.the_row_laws figures_laws.the_told figures_said (ask_mode_rows bytes i j)
+      (figures_said (figures_in (task_block bytes i) j))
+      (each_ask_mode Fits bytes (front_fits bytes b) (task_fits bytes b) (refl, omega arith) i j)
+      (λ none. (
+        Ok (figures_in (task_block bytes i) j),
+        (
+          _,
+          (
+            refl,
+            (_, (refl, ((_, (refl, ((refl, fits 4 (8 + 12 * j) (i + 1)), ((refl, fits 4 (12 + 12 * j) (i + 1)), ((refl, fits 4 (16 + 12 * j) (i + 1)), tt))))), tt))),
+          ),
+        ),
         refl,
       ))
 

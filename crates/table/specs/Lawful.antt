@@ -3,7 +3,7 @@
 use Rattle.std.specs.Prelude.{ℕ, ◌*◌, ◌%◌, ◌^◌, ◌≤◌, ◌<◌, true, false, ◌≡◌}
 use Rattle.model.specs.Limits.{most_tasks, most_cores}
 use Rattle.model.specs.Rules.{meets}
-use Rattle.block.specs.Layout.{Figures}
+use Rattle.model.specs.declared.Figures.{Figures}
 use Rattle.block.specs.Tests.{allows}
 use Rattle.table.specs.Numbers.{TaskNumbers, Numbers}
 

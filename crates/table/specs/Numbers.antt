@@ -1,7 +1,8 @@
 -- The numbers of a table, as asking gives them: of each task below their count, and of each mode below the task's mode count.
 use Rattle.std.specs.Prelude.{ℕ, List}
 use Rattle.model.specs.Turns.{each_from}
-use Rattle.block.specs.Layout.{tasks_in, cores_in, common_in, elasticity_in, modes_in, permitted_in, Figures, figures_in, flat}
+use Rattle.model.specs.declared.Figures.{Figures}
+use Rattle.block.specs.Layout.{tasks_in, cores_in, common_in, elasticity_in, modes_in, permitted_in, figures_in, flat}
 use Rattle.table.specs.Order.{header_block, task_block}
 
 pub record TaskNumbers : Type 0 where

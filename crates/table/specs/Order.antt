@@ -5,7 +5,8 @@ use Rattle.answer.specs.Said.{Said, header, task, figures}
 use Rattle.answer.specs.Order.{Row, row, first}
 use Rattle.model.specs.Turns.{each_from}
 use Rattle.block.specs.Bytes.{check_of}
-use Rattle.block.specs.Layout.{kind_in, check_in, edition_in, tasks_in, cores_in, common_in, header_unused, elasticity_in, modes_in, permitted_in, task_number_in, task_unused, Figures, figures_in}
+use Rattle.model.specs.declared.Figures.{Figures}
+use Rattle.block.specs.Layout.{kind_in, check_in, edition_in, tasks_in, cores_in, common_in, header_unused, elasticity_in, modes_in, permitted_in, task_number_in, task_unused, figures_in}
 use Rattle.block.specs.Tests.{wrong_limits, wrong_shape, wrong_permitted, modes_rows}
 
 -- block k of the bytes: blocks of 512 bytes, counted from 0

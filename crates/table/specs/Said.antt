@@ -1,10 +1,10 @@
--- The document's number and values for each case of `Reading`.
-use Rattle.answer.specs.Said.{Said, refused, header, task, figures}
-use Rattle.table.specs.declared.Reading.{Reading}
-use Rattle.table.specs.declared.Reading.TheVariants.{Refused, Header, Task, Figures}
+-- The document's numbers of what reading gives. A mode's figures are said by `figures_said`.
+use Rattle.answer.specs.Said.{Said, header, task}
+use Rattle.block.specs.declared.Header.{Header}
+use Rattle.block.specs.declared.Task.{Task}
 
-abbrev pub said : Reading → Said
-said (Refused r) = refused r.number r.at
-said (Header n m H) = header n m H
-said (Task E modes permitted) = task E modes permitted
-said (Figures C L T) = figures C L T
+abbrev pub the_header : Header → Said
+the_header h = header h.tasks h.cores h.common
+
+abbrev pub the_task : Task → Said
+the_task t = task t.elasticity t.modes t.permitted

@@ -1,33 +1,35 @@
 -- The outcome at each way out of taking, from the tests that lead there. Assumes nothing.
 use Prim.Native.Nat.{ℕ, ◌+◌, ◌*◌, ◌≤◌, ◌<◌}
 use native.Mathlib.Nat.{sub-zero}
+use native.Mathlib.Omega.{arith}
 use mathlib.Core.Path.{◌≡◌, sym, ap, ap₂, ◌∙◌}
-use mathlib.Core.Bool.{true, false, not}
+use mathlib.Core.Bool.{Bool, true, false, not}
 use mathlib.Core.List.{List, [], ◌∷◌, ◌++◌}
 use mathlib.Core.Logic.{◌≢◌}
 use borrow.Author.Tests.{lt-ltb, le-ltb, eq-eqb, ne_eqb}
 use lib.Dec.{ltb, eqb}
-use lib.ListN.{length, take}
-use Rattle.answer.specs.Said.{Said, refused, plan}
+use lib.ListN.{length}
+use Rattle.std.proofs.Common.{None, Some}
+use Rattle.arrayvec.specs.ArrayVec.{ArrayVec}
+use Rattle.std.specs.Result.{IsErr, IsErrAnd}
+use Rattle.answer.specs.Said.{Said, refused, plan, number_of}
+use Rattle.answer.specs.declared.Refusal.{Refusal}
 use Rattle.answer.specs.Order.{Row, row, first, afterwards, Outcome}
-use Rattle.answer.proofs.Rows.{kind}
+use Rattle.answer.proofs.Elses.{left_as_it_was}
 use Rattle.answer.proofs.Outcomes.{goes, joined, behind, given}
 use Rattle.model.specs.Cells.{mark}
 use Rattle.model.specs.Taking.{used, trace, all_keep, take_rows, take_modes}
-use Rattle.cells.specs.inner.Rows.{row_from}
-use Rattle.table.specs.declared.Reading.{Reading}
-use Rattle.table.specs.Said.{said as said_of}
-use Rattle.table.specs.inner.Refusals.{refusal_of}
+use Rattle.model.proofs.Taking.{used_cong}
+use Rattle.cells.specs.inner.Rows.{row_reads}
 use Rattle.table.specs.Order.{header_block, header_said}
 use Rattle.table.specs.Numbers.{numbers_in}
-use Rattle.table.specs.inner.Accepted.{LawfulWith}
-use Rattle.table.proofs.Readings.{handed_else}
+use Rattle.table.specs.inner.Accepted.{Plannable}
 use Rattle.choices.specs.Tasks.{tasks_of_table, cores_of_table, cells_of_table}
 use Rattle.choices.proofs.Tables.{count_is}
-use Rattle.taking.specs.declared.Traced.{Traced}
+use Rattle.taking.specs.Said.{Taken, the_plan, said}
 use Rattle.taking.specs.Take.{cell_of, lent_rows, progress_rows, taking_rows, with_modes}
 use Rattle.taking.specs.inner.Traces.{TracedFrom}
-use Rattle.taking.proofs.Tracing.{row_is}
+use Rattle.taking.proofs.Tracing.{row_of, row_is}
 use Rattle.taking.proofs.Lent.{Says, Lent, none_all}
 
 module _ (bytes cells : List ℕ) (p : ℕ) (before : List ℕ) where
@@ -62,13 +64,14 @@ module _ (bytes cells : List ℕ) (p : ℕ) (before : List ℕ) where
   From s e = Outcome Own Rest before After s e
 
   -- the table or what is lent is refused, and so is taking, for the same reason
-  pub turned_away : {s : Said} (r : Reading) → (kind (said_of r) ≡ 1 → ⊥) → Says bytes (length cells) (length before) (said_of r)
-      → s ≡ refused (refusal_of r).number (refusal_of r).at → Ends s before
+  pub turned_away : (r : Refusal) (x : Taken) → IsErr x × IsErrAnd x (λ e. e ≡ r)
+      → Says bytes (length cells) (length before) (refused (number_of r.reason) r.at) → Ends (said x) before
   unfolding taking_rows
-  turned_away {s} r other q e =
+  turned_away r x p q =
       let further = Progress ++ Own in
-      let o = handed_else r Room (header_said (header_block bytes)) (first further Rest) before (afterwards further before After) other q in
-      joined Room further Rest before After (record { says = e ∙ o.says; leaves = o.leaves })
+      joined Room further Rest before After
+      (left_as_it_was the_plan Room r x (header_said (header_block bytes)) (first further Rest) before (afterwards further before After)
+      (λ z. omega (arith, z)) p q)
 
   module _ {n m H : ℕ} (l : Lent bytes (length cells) (length before) n m H) where
     -- both are accepted
@@ -94,39 +97,41 @@ module _ (bytes cells : List ℕ) (p : ℕ) (before : List ℕ) where
       taken low o = past_room (behind Progress Own Rest before After (not_above, (le-ltb p (cells_of_table bytes) (rw W low), tt)) o)
 
 -- ---- past those tests
-module _ {bytes : List ℕ} {n m H : ℕ} (L : LawfulWith bytes n m H) (cells before : List ℕ)
-    (cost : ℕ) (cost_is : cost ≡ row_from cells (n * (m + 1)) m) where
+module _ {bytes : List ℕ} {n m H : ℕ} (L : Plannable bytes n m H) (cells before : List ℕ)
+    (cost : ℕ) (cost_is : cost ≡ row_reads (row_of cells (n * (m + 1)) m) m) where
   -- row 0 starts at n * (m + 1)
-  top : cell_of bytes cells 0 ≡ row_from cells (n * (m + 1))
+  top : (c : ℕ) → c ≤ m → cell_of bytes cells 0 c ≡ row_reads (row_of cells (n * (m + 1)) m) c
   top = row_is (numbers_in bytes).tasks (cores_of_table bytes) n m 0 (n * (m + 1)) cells L.tasks L.cores (rw sub-zero)
 
   last : cost ≡ cell_of bytes cells 0 (cores_of_table bytes)
-  last = cost_is ∙ rw (top, L.cores)
+  last = cost_is ∙ sym (top m (omega arith)) ∙ ap (cell_of bytes cells 0) (sym L.cores)
 
   pub marked : {s : Said} → s ≡ refused 14 0 → cost ≡ mark → From bytes cells 0 before s before
   unfolding take_rows
   marked q e = given [] _ 14 _ tt (eq-eqb _ _ (sym last ∙ e)) q
 
-  module _ (e : cost ≢ mark) (u : ℕ) (u_is : u ≡ used (row_from cells (n * (m + 1))) m) (r : Traced) (t : TracedFrom bytes cells n u r) where
+  module _ (e : cost ≢ mark) (u : ℕ) (u_is : u ≡ used (row_reads (row_of cells (n * (m + 1)) m)) m) where
     unmarked : eqb (cell_of bytes cells 0 (cores_of_table bytes)) mark ≡ false
     unmarked = ne_eqb _ _ (λ x. e (last ∙ x))
 
     column : u ≡ used (cell_of bytes cells 0) (cores_of_table bytes)
-    column = u_is ∙ rw (top, L.cores)
+    column = u_is ∙ used_cong _ (cell_of bytes cells 0) m (λ c low. sym (top c low)) ∙ ap (used (cell_of bytes cells 0)) (sym L.cores)
 
-    all_is : r.all ≡ all_keep (cell_of bytes cells) 0 (tasks_of_table bytes) (used (cell_of bytes cells 0) (cores_of_table bytes))
-    all_is = t.all ∙ ap (all_keep (cell_of bytes cells) 0 (tasks_of_table bytes)) column
+    all_is : (b : Bool) → all_keep (cell_of bytes cells) 0 (tasks_of_table bytes) u ≡ b
+        → not (all_keep (cell_of bytes cells) 0 (tasks_of_table bytes) (used (cell_of bytes cells 0) (cores_of_table bytes))) ≡ not b
+    all_is b f = ap not (ap (all_keep (cell_of bytes cells) 0 (tasks_of_table bytes)) (sym column) ∙ f)
 
-    pub unkept : {s : Said} → s ≡ refused 18 0 → r.all ≡ false → From bytes cells 0 before s before
+    pub unkept : {s : Said} → s ≡ refused 18 0 → TracedFrom bytes cells u None → From bytes cells 0 before s before
     unfolding take_rows
     unkept q f =
-        given (row 14 0 (eqb (cell_of bytes cells 0 (cores_of_table bytes)) mark) ∷ []) [] 18 _ (unmarked, tt) (ap not (sym all_is ∙ f)) q
+        given (row 14 0 (eqb (cell_of bytes cells 0 (cores_of_table bytes)) mark) ∷ []) [] 18 _ (unmarked, tt) (all_is false f) q
 
-    pub planned : {s : Said} {out : List ℕ} → s ≡ plan u cost → out ≡ with_modes (take n r.modes) before → r.all ≡ true
+    pub planned : (modes : ArrayVec ℕ) {s : Said} {out : List ℕ} → TracedFrom bytes cells u (Some modes)
+        → s ≡ plan u cost → out ≡ with_modes modes.items before
         → From bytes cells 0 before s out
     unfolding take_rows
-    planned q o f =
+    planned modes f q o =
         goes (Own bytes cells 0 before) (Rest bytes cells 0 before) before (After bytes cells 0 before)
-        (unmarked, (ap not (sym all_is ∙ f), tt))
+        (unmarked, (all_is true f.0, tt))
         (q ∙ ap₂ plan column last)
-        (o ∙ ap (λ (x : List ℕ). with_modes x before) (t.modes f ∙ ap (trace (cell_of bytes cells) 0 (tasks_of_table bytes)) column))
+        (o ∙ ap (λ (x : List ℕ). with_modes x before) (f.1 ∙ ap (trace (cell_of bytes cells) 0 (tasks_of_table bytes)) column))

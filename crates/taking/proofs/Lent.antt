@@ -5,15 +5,20 @@ use mathlib.Core.Path.{◌≡◌, sym, ◌∙◌}
 use mathlib.Core.List.{List, [], ◌∷◌}
 use borrow.Author.Tests.{lt-ltb, le-ltb, ltb-false}
 use lib.Dec.{ltb}
-use Rattle.answer.specs.Said.{Said, refused, header}
+use Rattle.std.specs.Prelude.{Result}
+use Rattle.std.specs.Result.{IsErr, IsErrAnd}
+use Rattle.answer.specs.Said.{Said, refused, header, number_of, said_of}
+use Rattle.answer.specs.declared.Refusal.{Refusal}
 use Rattle.answer.specs.Order.{Row, row, first, NoneGiven}
-use Rattle.answer.proofs.Rows.{kind, stop, first_append, append_none, none_append, none_first}
-use Rattle.answer.proofs.Elses.{passed, answered}
+use Rattle.answer.proofs.Rows.{first_append, append_none, none_append, none_first}
+use Rattle.answer.proofs.Elses.{passed, answered, passed_up}
 use Rattle.block.specs.Bytes.{Bytes}
+use Rattle.block.specs.declared.Header.{Header}
+use Rattle.table.specs.Said.{the_header}
 use Rattle.table.specs.Order.{header_block, header_said, table_rows, table_said}
 use Rattle.table.specs.Numbers.{numbers_in}
-use Rattle.table.specs.inner.Accepted.{LawfulWith}
-use Rattle.table.proofs.Accepted.{accepted_with}
+use Rattle.table.specs.inner.Accepted.{LawfulTable, LawfulWith, Plannable}
+use Rattle.table.proofs.Accepted.{accepted_with, plannable}
 use Rattle.choices.specs.Tasks.{cells_of_table}
 use Rattle.taking.specs.Take.{lent_rows}
 
@@ -32,8 +37,9 @@ module _ (bytes : List ℕ) (cells out : ℕ) where
   unfolding lent_rows
   then_own e = e ∙ sym (first_append (table_rows bytes) own front)
 
-  pub turned_away : {s : Said} → (kind s ≡ 1 → ⊥) → s ≡ table_said bytes → Says s
-  turned_away other q = then_own (stop (table_rows bytes) front (first own front) other q)
+  pub turned_away : (r : Refusal) (x : Result Header Refusal) → IsErr x × IsErrAnd x (λ e. e ≡ r)
+      → refused (number_of r.reason) r.at ≡ table_said bytes → Says (said_of the_header x)
+  turned_away r x p q = then_own (passed_up the_header (table_rows bytes) r x front (first own front) (λ z. omega (arith, z)) p q)
 
   module _ (none : NoneGiven (table_rows bytes)) where
     past : {s : Said} → s ≡ first own front → Says s
@@ -60,16 +66,26 @@ module _ (bytes : List ℕ) (cells out : ℕ) where
       let p = none_append (table_rows bytes) own none in
       (p.0, ltb-false _ _ p.1.0, ltb-false _ _ p.1.1.0)
 
-  -- past them the table is lawful, with room for what it needs
+  -- past them the table is lawful and can be planned over, with room for what it needs
   pub record Lent (n m H : ℕ) : Type 0 where
-    pub lawful : LawfulWith bytes n m H
+    pub table : LawfulTable bytes
+    pub lawful : Plannable bytes n m H
     pub none : NoneGiven (table_rows bytes)
     pub room : cells_of_table bytes ≤ cells
     pub space : (numbers_in bytes).tasks ≤ out
 
+  -- the table's header then, by which it was checked
+  pub header_of : (n m H : ℕ) → Says (header n m H) → header n m H ≡ table_said bytes
+  header_of n m H q =
+      answered (lent_rows bytes cells out) front (λ z. omega (arith, z)) q
+      ∙ sym (none_first (table_rows bytes) front (all_none (passed (lent_rows bytes cells out) front (λ z. omega (arith, z)) q)).0)
+
   pub lent : (n m H : ℕ) → Bytes bytes → Says (header n m H) → Lent n m H
   lent n m H b q =
       let p = all_none (passed (lent_rows bytes cells out) front (λ z. omega (arith, z)) q) in
-      let told : header n m H ≡ table_said bytes =
-      answered (lent_rows bytes cells out) front (λ z. omega (arith, z)) q ∙ sym (none_first (table_rows bytes) front p.0) in
-      record { lawful = accepted_with bytes n m H b told; none = p.0; room = p.1; space = p.2 }
+      let w : LawfulWith bytes n m H = accepted_with bytes n m H b (header_of n m H q) in
+      record { table = w.table; lawful = plannable w; none = p.0; room = p.1; space = p.2 }
+
+  -- for a caller past its `?`: by the header that was answered
+  pub called : (h : Header) → Bytes bytes → Says (the_header h) → Lent h.tasks h.cores h.common
+  called h b q = lent h.tasks h.cores h.common b q

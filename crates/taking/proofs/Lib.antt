@@ -1,8 +1,5 @@
-pub mod Answers
 pub mod Refusals
-pub mod Copies
 pub mod Searches
-pub mod Helds
 pub mod Tracing
 pub mod Lent
 pub mod Exits

@@ -7,8 +7,7 @@ use Rattle.model.specs.Taking.{used, take_rows, take_modes}
 use Rattle.table.specs.Order.{table_rows}
 use Rattle.table.specs.Numbers.{numbers_in}
 use Rattle.choices.specs.Tasks.{tasks_of_table, cores_of_table, cells_of_table}
-use Rattle.taking.specs.declared.Taken.{Taken}
-use Rattle.taking.specs.Said.{said}
+use Rattle.taking.specs.Said.{Taken, said}
 
 -- the cell in row i at column c, as it reads
 abbrev pub cell_of : List ℕ → List ℕ → ℕ → ℕ → ℕ

@@ -18,7 +18,7 @@ use Rattle.table.specs.inner.Accepted.{LawfulTable}
 use Rattle.choices.specs.Tasks.{tasks_of_table, cores_of_table, cells_of_table}
 use Rattle.choices.proofs.Tables.{tasks_length, cells_by_tasks, limits}
 use Rattle.portions.specs.Portion.{rule_of, FilledTo}
-use Rattle.taking.specs.declared.Taken.{Taken}
+use Rattle.taking.specs.Said.{Taken}
 use Rattle.taking.specs.Take.{cell_of}
 use Rattle.taking.specs.inner.From.{TookFrom}
 use Rattle.whole.specs.Whole.{PlanGiven, NoPlanFits}

@@ -12,9 +12,9 @@ use Rattle.model.specs.Turns.{each_from}
 use Rattle.model.specs.Plan.{Task}
 use Rattle.model.specs.inner.Fitting.{least_need, least_cores}
 use Rattle.table.specs.Numbers.{Numbers, numbers_in, task_numbers_in}
-use Rattle.table.specs.inner.Accepted.{LawfulWith}
+use Rattle.table.specs.inner.Accepted.{Plannable}
 use Rattle.choices.specs.Tasks.{task_of, tasks_of, tasks_of_table}
-use Rattle.choices.specs.inner.Arrays.{NeedsLeast}
+use Rattle.choices.specs.inner.Modes.{NeedsLeast}
 use Rattle.choices.proofs.Tables.{task_at, block_task}
 
 -- the tasks from task i on
@@ -37,7 +37,7 @@ rest_end : (t : Numbers) (i : ℕ) → t.tasks ≤ i → least_cores (rest t i) 
 unfolding each_from least_cores
 rest_end t i h = let none : t.tasks - i ≡ 0 = omega arith in rw none
 
-module _ {bytes : List ℕ} {n m : ℕ} (w : LawfulWith bytes n m (numbers_in bytes).common) where
+module _ {bytes : List ℕ} {n m : ℕ} (w : Plannable bytes n m (numbers_in bytes).common) where
   pub fits_end : (i left : ℕ) → n ≤ i → fits_from bytes i left ≡ true
   fits_end i left h =
       le-leb (least_cores (rest (numbers_in bytes) i)) left (omega (arith, rest_end (numbers_in bytes) i (omega (arith, w.tasks))))

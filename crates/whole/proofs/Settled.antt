@@ -26,12 +26,11 @@ use Rattle.table.proofs.Accepted.{lawful}
 use Rattle.choices.specs.Tasks.{tasks_of_table, cores_of_table, cells_of_table}
 use Rattle.choices.proofs.Tables.{tasks_length, limits}
 use Rattle.portions.specs.Portion.{rule_of}
-use Rattle.taking.specs.declared.Taken.{Taken}
-use Rattle.taking.specs.Said.{said}
+use Rattle.taking.specs.Said.{Taken, said}
 use Rattle.taking.specs.Take.{cell_of, lent_rows, with_modes}
 use Rattle.taking.proofs.Refusals.{each_room}
 use Rattle.taking.proofs.Lent.{all_none}
-use Rattle.taking.proofs.Answers.{one_answer, Held, some_refusal, some_plan}
+use Rattle.taking.proofs.Settled.{one_answer, HeldTaken, some_refused, some_plan}
 use Rattle.whole.specs.Whole.{RefusedFirst, Ends, Planned, PlannedWhole}
 use Rattle.whole.proofs.Filled.{all_hold, right}
 use Rattle.whole.proofs.plan_whole.Kinds as plan_whole_kinds
@@ -75,13 +74,13 @@ module _ (bytes cells out : List ℕ) where
 pub plan_whole_one : One plan_whole_kinds.ps plan_whole_kinds.r plan_whole_reads.Post
 plan_whole_one κs a x y s t p q =
     let e = one _ _ _ x _ _ y _ _ p q in
-    (one_answer x y e.0 refl, ap₂ (λ (c o : List ℕ). (tt, (c, (o, tt)))) e.1 e.2)
+    (one_answer x y e.0, ap₂ (λ (c o : List ℕ). (tt, (c, (o, tt)))) e.1 e.2)
 
 -- ---- at least one
 module _ (bytes cells out : List ℕ) (is : Bytes bytes) where
   record Some : Type 0 where
     answer : Taken
-    held : Held answer
+    held : HeldTaken answer
     cells_left : List ℕ
     out_left : List ℕ
     as_many : (length cells_left ≡ length cells) × (length out_left ≡ length out)
@@ -90,7 +89,7 @@ module _ (bytes cells out : List ℕ) (is : Bytes bytes) where
   -- a refusal, and both buffers as they were
   refused_so : (k at : ℕ) → Fits k at → ((r : Taken) → said r ≡ refused k at → PlannedWhole bytes cells out r cells out) → Some
   refused_so k at f keeps =
-      let (r, held, told) = some_refusal k at f in
+      let (r, held, told) = some_refused k at f in
       record { answer = r; held = held; cells_left = cells; out_left = out; as_many = (refl, refl); allowed = keeps r told }
 
   abbrev Rows : List Row
@@ -119,11 +118,11 @@ module _ (bytes cells out : List ℕ) (is : Bytes bytes) where
           allowed = inr (record { none = none; ends = inl (modes, record { plan_is = p; answer = told; modes = refl }, filled) });
         }
     by_cells (inr (n, e)) =
-        refused_so 14 0 (omega arith, omega arith)
+        refused_so 14 0 (refl, omega arith)
         (λ r told. inr (record { none = none; ends = inr (record { nothing = n; answer = told; kept = refl }, refl) }))
 
   some_planned : Some
-  some_planned = go (decide Fits Rows (each_room Fits bytes (front_fits bytes is) (task_fits bytes is) (omega arith, omega arith) (length cells) (length out)))
+  some_planned = go (decide Fits Rows (each_room Fits bytes (front_fits bytes is) (task_fits bytes is) (refl, omega arith) (length cells) (length out)))
     where
       go : NoneGiven Rows ⊎ Refuses Fits Rows → Some
       go (inl none) =

@@ -1,30 +1,27 @@
 -- Planning in one call: the outcome at each way out, from the tests that lead there. Assumes nothing.
 use Prim.Native.Nat.{ℕ, ◌<◌}
 use native.Mathlib.Omega.{arith}
-use mathlib.Core.Path.{◌≡◌, refl, ◌∙◌}
+use mathlib.Core.Path.{◌≡◌, refl}
 use mathlib.Core.Logic.{◌⊎◌, inl, inr}
 use mathlib.Core.Bool.{true, false}
 use mathlib.Core.List.{List}
 use borrow.Author.Tests.{leb-true, leb-false}
 use lib.Dec.{leb}
 use lib.ListN.{length}
-use Rattle.answer.specs.Said.{refused}
+use Rattle.std.specs.Result.{IsErr, IsErrAnd}
+use Rattle.answer.specs.Said.{refused, number_of}
+use Rattle.answer.specs.declared.Refusal.{Refusal}
 use Rattle.answer.specs.Order.{NoneGiven}
-use Rattle.answer.proofs.Rows.{kind}
+use Rattle.answer.proofs.Elses.{passed_up}
 use Rattle.model.specs.Cells.{mark}
 use Rattle.model.specs.Workspace.{fill}
 use Rattle.model.specs.inner.Fitting.{least_cores}
 use Rattle.model.proofs.Fitting.{nothing_fits}
-use Rattle.table.specs.declared.Reading.{Reading}
-use Rattle.table.specs.Said.{said as said_of}
 use Rattle.table.specs.Order.{header_block, header_said}
-use Rattle.table.specs.inner.Refusals.{refusal_of}
 use Rattle.table.specs.inner.Accepted.{LawfulTable}
-use Rattle.table.proofs.Readings.{handed_else}
 use Rattle.choices.specs.Tasks.{tasks_of_table, cores_of_table, cells_of_table}
 use Rattle.portions.specs.Portion.{rule_of}
-use Rattle.taking.specs.declared.Taken.{Taken}
-use Rattle.taking.specs.Said.{said}
+use Rattle.taking.specs.Said.{Taken, the_plan, said}
 use Rattle.taking.specs.Take.{lent_rows}
 use Rattle.taking.specs.inner.From.{TookFrom}
 use Rattle.taking.proofs.Lent.{Says, Lent, none_all}
@@ -33,11 +30,12 @@ use Rattle.whole.proofs.Filled.{all_hold, taken}
 
 module _ (bytes cells out : List ℕ) where
   -- the table or what is lent is refused
-  pub turned_away : (r : Taken) (got : Reading) → (kind (said_of got) ≡ 1 → ⊥) → Says bytes (length cells) (length out) (said_of got)
-      → said r ≡ refused (refusal_of got).number (refusal_of got).at → PlannedWhole bytes cells out r cells out
-  turned_away r got other q e =
+  pub turned_away : (r : Refusal) (x : Taken) → IsErr x × IsErrAnd x (λ e. e ≡ r)
+      → Says bytes (length cells) (length out) (refused (number_of r.reason) r.at) → PlannedWhole bytes cells out x cells out
+  turned_away r x p q =
       inl record {
-        answer = λ rest. e ∙ (handed_else got (lent_rows bytes (length cells) (length out)) (header_said (header_block bytes)) rest cells cells other q).says;
+        answer = λ rest. passed_up the_plan (lent_rows bytes (length cells) (length out)) r x (header_said (header_block bytes)) rest
+            (λ z. omega (arith, z)) p q;
         cells_kept = refl;
         out_kept = refl;
       }
@@ -45,7 +43,7 @@ module _ (bytes cells out : List ℕ) where
   -- both are accepted
   module _ {n m H : ℕ} (l : Lent bytes (length cells) (length out) n m H) where
     abbrev table : LawfulTable bytes
-    table = l.lawful.table
+    table = l.table
 
     none_given : NoneGiven (lent_rows bytes (length cells) (length out))
     none_given = none_all bytes (length cells) (length out) l.none l.room l.space

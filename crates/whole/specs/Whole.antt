@@ -6,8 +6,7 @@ use Rattle.model.specs.Plan.{IsPlan, NothingFits, total_cores, total_cost}
 use Rattle.model.specs.Workspace.{fill}
 use Rattle.choices.specs.Tasks.{tasks_of_table, cores_of_table, cells_of_table}
 use Rattle.portions.specs.Portion.{rule_of}
-use Rattle.taking.specs.declared.Taken.{Taken}
-use Rattle.taking.specs.Said.{said}
+use Rattle.taking.specs.Said.{Taken, said}
 use Rattle.taking.specs.Take.{lent_rows, with_modes}
 
 -- the plan s of the table: it is answered with its cores and its cost, and its modes are written, one byte per task

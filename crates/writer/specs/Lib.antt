@@ -4,5 +4,3 @@
 pub mod Said
 -- the order of the writers' refusals, and what they leave of the buffer
 pub mod Order
--- nothing that has to be believed
-pub mod inner

@@ -7,8 +7,7 @@ use Rattle.model.specs.Limits.{most_tasks}
 use Rattle.block.specs.Layout.{threes}
 use Rattle.block.specs.Tests.{wrong_common, wrong_limits, wrong_shape, wrong_permitted, modes_rows}
 use Rattle.block.specs.Whole.{header_bytes, task_bytes}
-use Rattle.writer.specs.declared.Written.{Written}
-use Rattle.writer.specs.Said.{said}
+use Rattle.writer.specs.Said.{Written, said}
 
 -- 15: the lent buffer is too short
 abbrev pub room_rows : ℕ → List Row

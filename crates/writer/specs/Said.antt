@@ -1,8 +1,10 @@
--- The document's number for each case of `Written`.
-use Rattle.answer.specs.Said.{Said, refused, written}
-use Rattle.writer.specs.declared.Written.{Written}
-use Rattle.writer.specs.declared.Written.TheVariants.{Refused, Done}
+-- What a writer answers, in the document's numbers: the block is written, or a refusal.
+use Rattle.std.specs.Prelude.{Result}
+use Rattle.answer.specs.Said.{Said, written, said_of}
+use Rattle.answer.specs.declared.Refusal.{Refusal}
+
+abbrev pub Written : Type 0
+Written = Result (Unit {0}) Refusal
 
 abbrev pub said : Written → Said
-said (Refused r) = refused r.number r.at
-said Done = written
+said = said_of (λ x. written)

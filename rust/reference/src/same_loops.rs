@@ -2,9 +2,10 @@
 //!
 //! Answers and refusals are the plain reference's; only the way to them is the planner's. A number is
 //! read a byte at a time, 0 past the end of its block. The weights of a block's check have 16 bits.
-//! Unused bytes are joined and looked at once. A task's needs and costs are loaded into two arrays
-//! before its row is filled, and the row after it is held in a third, as its cells count in sums. The
-//! whole plan has one check, and knows from the least needs whether anything fits.
+//! Unused bytes are joined and looked at once. A task's modes are loaded before its row is filled, and
+//! the row after it is held as its cells count in sums; a mode that needs more cores than a column's
+//! number offers nothing there. The whole plan has one check, and knows from the least needs whether
+//! anything fits.
 
 use crate::cells::reads;
 use crate::table::{BLOCK, CHECK, EDITION, HEADER_KIND, MODE, MODES, TASK_KIND};
@@ -172,27 +173,32 @@ fn need_of(block: &[u8], mode: u8) -> u64 {
     rules::cores(figures(block, mode)).map_or(NEVER, u64::from)
 }
 
-fn needs(block: &[u8]) -> [u64; MOST_MODES] {
-    let mut needs = [0; MOST_MODES];
-    for mode in 0..get8(block, 2) {
-        needs[usize::from(mode)] = need_of(block, mode);
-    }
-    needs
-}
-
 fn least_need(block: &[u8]) -> u64 {
     (0..get8(block, 2)).fold(NEVER, |least, mode| least.min(need_of(block, mode)))
 }
 
-fn costs(block: &[u8], common: u32) -> [u64; MOST_MODES] {
+/// A mode as a row is filled by it.
+#[derive(Clone, Copy)]
+struct Mode {
+    need: u64,
+    cost: u64,
+}
+
+const NO_MODES: [Mode; MOST_MODES] = [Mode { need: NEVER, cost: 0 }; MOST_MODES];
+
+/// The modes of a task in turn.
+fn load_modes<'a>(block: &[u8], common: u32, modes: &'a mut [Mode; MOST_MODES]) -> &'a [Mode] {
     let demand = |mode| rules::demand(figures(block, mode), common);
     let elasticity = get8(block, 1);
     let nominal = demand(0);
-    let mut costs = [0; MOST_MODES];
-    for mode in 0..get8(block, 2) {
-        costs[usize::from(mode)] = rules::cost(elasticity, nominal, demand(mode));
+    let count = get8(block, 2);
+    for mode in 0..count {
+        modes[usize::from(mode)] = Mode {
+            need: need_of(block, mode),
+            cost: rules::cost(elasticity, nominal, demand(mode)),
+        };
     }
-    costs
+    &modes[..usize::from(count)]
 }
 
 /// A number as it counts in a sum.
@@ -206,19 +212,21 @@ fn hold_row(next: &[u64], row: &mut [u64; WIDEST]) {
     }
 }
 
-fn offer(need: u64, cost: u64, row: &[u64], column: usize) -> u64 {
-    if column < need as usize {
-        return BEYOND;
+fn offer(mode: &Mode, row: &[u64], column: usize) -> Option<u64> {
+    if column < mode.need as usize {
+        return None;
     }
-    cost + row[column - need as usize]
+    Some(mode.cost + row[column - mode.need as usize])
 }
 
-fn least(needs: &[u64], costs: &[u64], row: &[u64], column: usize) -> u64 {
+fn least(modes: &[Mode], row: &[u64], column: usize) -> u64 {
     // Cut off at the column, so that the compiler need not ask whether a cell is there.
     let row = &row[..=column];
     let mut best = BEYOND;
-    for (&need, &cost) in needs.iter().zip(costs) {
-        best = best.min(offer(need, cost, row, column));
+    for mode in modes {
+        if let Some(offer) = offer(mode, row, column) {
+            best = best.min(offer);
+        }
     }
     reads(best)
 }
@@ -232,13 +240,13 @@ fn task_run(
     from: usize,
     to: usize,
 ) {
-    let count = usize::from(get8(block, 2));
-    let (needs, costs) = (needs(block), costs(block, header.common_period));
+    let mut held = NO_MODES;
+    let modes = load_modes(block, header.common_period, &mut held);
     let next = start - width(header);
     let mut row = [0; WIDEST];
     hold_row(&cells[next..next + (to - start)], &mut row);
     for (column, cell) in (from - start..).zip(&mut cells[from..to]) {
-        *cell = least(&needs[..count], &costs[..count], &row, column);
+        *cell = least(modes, &row, column);
     }
 }
 
@@ -290,32 +298,30 @@ pub fn portion(
 }
 
 /// Whether a mode keeps the cost of a cell in this column of the row before `next`.
-fn keeps(need: u64, cost: u64, next: &[u64], column: usize, cell: u64) -> bool {
-    if column < need as usize {
+fn keeps(mode: &Mode, next: &[u64], column: usize, cell: u64) -> bool {
+    if column < mode.need as usize {
         return false;
     }
-    reads(cost + count_of(next[column - need as usize])) == cell
+    reads(mode.cost + count_of(next[column - mode.need as usize])) == cell
 }
 
 /// The lowest mode of each task in turn that keeps its cell's cost, from column `used` of row 0; none
 /// where a task has no such mode.
 fn trace(table: &[u8], header: &Header, cells: &[u64], used: usize) -> Option<[u8; MOST_TASKS]> {
-    let mut modes = [0; MOST_TASKS];
+    let mut chosen = [0; MOST_TASKS];
+    let mut held = NO_MODES;
     let mut column = used;
-    let mut start = usize::from(header.tasks) * width(header);
-    for (task, chosen) in modes.iter_mut().enumerate().take(usize::from(header.tasks)) {
-        let cell = reads(cells[start + column]);
-        start -= width(header);
-        let next = &cells[start..][..width(header)];
+    let (rows, mut row) = cells.split_at(usize::from(header.tasks) * width(header));
+    for (task, next) in rows.rchunks_exact(width(header)).enumerate() {
+        let cell = reads(row[column]);
         let block = task_block(table, task);
-        let count = usize::from(get8(block, 2));
-        let (needs, costs) = (needs(block), costs(block, header.common_period));
-        let kept = |&mode: &usize| keeps(needs[mode], costs[mode], next, column, cell);
-        let mode = (0..count).find(kept)?;
-        *chosen = mode as u8;
-        column -= needs[mode] as usize;
+        let modes = load_modes(block, header.common_period, &mut held);
+        let mode = modes.iter().position(|mode| keeps(mode, next, column, cell))?;
+        chosen[task] = mode as u8;
+        column -= modes[mode].need as usize;
+        row = next;
     }
-    Some(modes)
+    Some(chosen)
 }
 
 fn take_from(

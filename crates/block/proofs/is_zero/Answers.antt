@@ -1,18 +1,12 @@
-use mathlib.Core.Path.{sym, ◌∙◌}
-use native.Mathlib.Omega.{arith}
-use Rattle.block.proofs.Zeros.{zeros_on, zeros_end}
+use mathlib.Core.Path.{◌≡◌}
+use lib.Bits.{bit_or}
+use Rattle.std.proofs.Common.{rules, slice_range}
+use Rattle.std.specs.List.{fold}
+use Rattle.block.proofs.Zeros.{bits_zeros}
 use Rattle.block.proofs.is_zero.Goals as goal
-
-pub loop-at-preserved : goal.loop-at-preserved
-loop-at-preserved c =
-    let a = c.args in
-    let at = c.loop-at.at in (
-      c.loop-at.invariant.0,
-      c.loop-at.invariant.1 ∙ zeros_on c.loop-at.seen at a.to a.block.now (omega arith),
-    )
 
 pub returns : goal.returns
 returns c =
     let a = c.args in
-    let l = c.loop-at in
-    sym (l.invariant.1 ∙ zeros_end l.seen l.at a.to a.block.now (omega arith))
+    let e : c.fold.result ≡ fold bit_or 0 (slice_range a.block.now c.min-start.result c.min-end.result) = search rules in
+    rw (e, c.min-start.ensures, c.min-end.ensures) (bits_zeros a.from a.to a.block.now)

@@ -1,27 +1,28 @@
-use mathlib.Core.Path.{sym, ap, ◌∙◌}
-use mathlib.Core.List.{List}
-use Prim.Native.Nat.{ℕ, ◌-◌}
+use mathlib.Core.Path.{refl, ◌∙◌}
+use mathlib.Core.List.{map}
+use Prim.Native.Nat.{◌+◌}
 use native.Mathlib.Omega.{arith}
-use lib.ListN.{length-set}
-use Rattle.model.specs.Workspace.{Rule}
-use Rattle.model.proofs.Fills.{fill_none, fill_turn}
-use Rattle.cells.specs.inner.Rows.{held_task, task_row}
-use Rattle.cells.proofs.Held.{held_rule}
+use Rattle.model.specs.Cells.{least}
+use Rattle.model.proofs.Least.{least_cong}
+use Rattle.model.proofs.Turns.{each_put, each_over}
+use Rattle.cells.specs.inner.Rows.{held, row_reads}
 use Rattle.cells.proofs.fill_run.Goals as goal
 
-abbrev rule : List ℕ → List ℕ → ℕ → ℕ → Rule
-rule need cost next start = task_row (held_task need cost) next start
+pub loop-i-init : goal.loop-i-init
+unfolding Rattle.model.specs.Turns.each_from
+loop-i-init c = refl
 
-pub loop-p-init : goal.loop-p-init
-loop-p-init c = (omega arith, omega arith, omega arith, c.hold_row-row.ensures, fill_none _ _ _)
-
-pub loop-p-preserved : goal.loop-p-preserved
-loop-p-preserved c =
-    let l = c.loop-p in
+pub loop-i-preserved : goal.loop-i-preserved
+loop-i-preserved c =
     let a = c.args in
-    let f = rule a.need.now a.cost.now a.next a.start in
-    let v = c.least-v.ensures
-    ∙ held_rule (held_task a.need.now a.cost.now) f a.cells.now c.hold_row-row.result a.next a.start a.from l.p (a.to - a.start)
-    (omega arith) (omega arith) (omega arith) (omega arith) l.invariant.3
-    ∙ ap (λ (ws : List ℕ). f ws l.p) (sym l.invariant.4) in
-    (omega arith, omega arith, simp length-set l.invariant.2, l.invariant.3, fill_turn f a.cells.now l.cells a.from l.p c.least-v.result l.invariant.0 l.invariant.4 v)
+    let l = c.loop-i in
+    let t = map held a.modes.now in
+    each_put (least t (row_reads a.next.now)) a.column a.cells.now l.cells l.i c.least.result (omega arith)
+    (c.least.ensures ∙ least_cong t (row_reads _) (row_reads a.next.now) (a.column + l.i) (λ k low. c.new-held.ensures k (omega arith)))
+    l.invariant
+
+pub returns : goal.returns
+returns c =
+    let a = c.args in
+    each_over (least (map held a.modes.now) (row_reads a.next.now)) a.column a.cells.now c.loop-i.cells c.loop-i.i
+    (omega arith) (omega arith) c.loop-i.invariant

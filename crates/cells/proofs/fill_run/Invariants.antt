@@ -1,16 +1,11 @@
--- The invariant: the cells are what the rule fills up to p.
+-- The invariant: the cells passed hold the least over the modes.
 use mathlib.Core.Path.{◌≡◌}
-use Prim.Native.Nat.{◌≤◌, ◌-◌}
-use lib.ListN.{length}
-use Rattle.model.specs.Workspace.{fill}
-use Rattle.cells.specs.inner.Rows.{held_task, task_row}
-use Rattle.cells.specs.inner.Held.{HeldRow}
+use mathlib.Core.List.{◌++◌, map}
+use lib.ListN.{drop}
+use Rattle.model.specs.Turns.{each_from}
+use Rattle.model.specs.Cells.{least}
+use Rattle.cells.specs.inner.Rows.{held, row_reads}
 use Rattle.cells.proofs.fill_run.Given as goal
 
-abbrev pub invariant-loop-p : goal.invariant-loop-p
-invariant-loop-p l =
-    (l.from ≤ l.p) × (l.p ≤ l.to) × (length l.cells ≡ length l.initial.cells) × HeldRow l.initial.cells l.next (l.to - l.start) l.row
-    × (l.cells ≡ fill (task_row (held_task l.need l.cost) l.next l.start) l.initial.cells l.from (l.p - l.from))
-
-abbrev pub decreases-loop-p : goal.decreases-loop-p
-decreases-loop-p l = l.to - l.p
+abbrev pub invariant-loop-i : goal.invariant-loop-i
+invariant-loop-i l = l.cells ≡ each_from (least (map held l.modes) (row_reads l.fn.next)) l.column l.i ++ drop l.i l.initial.cells

@@ -1,16 +1,12 @@
--- The invariant: the least so far and the least of the modes left give the least of all.
+-- The invariant: the least so far, and what the modes left offer, give the least of all.
 use mathlib.Core.Path.{◌≡◌}
-use Prim.Native.Nat.{◌≤◌, ◌-◌, min}
-use lib.ListN.{length}
-use Rattle.model.specs.Cells.{reads}
-use Rattle.cells.specs.inner.Rows.{row_from}
-use Rattle.cells.proofs.Offers.{least_from}
+use Prim.Native.Nat.{◌+◌}
+use lib.ListN.{drop}
+use Rattle.std.specs.List.{fold}
+use Rattle.model.specs.Cells.{ceiling}
+use Rattle.cells.proofs.Counts.{lesser}
 use Rattle.cells.proofs.least.Given as goal
 
-abbrev pub invariant-loop-j : goal.invariant-loop-j
-invariant-loop-j l =
-    (l.j ≤ length l.need)
-    × (min (reads l.best) (least_from l.need l.cost l.j (row_from l.row 0) l.column) ≡ least_from l.need l.cost 0 (row_from l.row 0) l.column)
-
-abbrev pub decreases-loop-j : goal.decreases-loop-j
-decreases-loop-j l = length l.need - l.j
+abbrev pub invariant-loop-mode : goal.invariant-loop-mode
+invariant-loop-mode l =
+    fold (lesser l.next.counts l.column) l.best (drop l.mode-index l.modes) ≡ fold (lesser l.next.counts l.column) (ceiling + 1) l.modes

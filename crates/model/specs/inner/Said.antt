@@ -1,8 +1,7 @@
--- The document's number and values for each case of `Need`.
+-- The document's number and values for a mode's cores: so many, or none, since it can't meet its period.
+use Rattle.std.specs.Prelude.{ℕ, Option, Some, None}
 use Rattle.answer.specs.Said.{Said, refused, needs}
-use Rattle.model.specs.declared.Need.{Need}
-use Rattle.model.specs.declared.Need.TheVariants.{Cores, Late}
 
-abbrev pub said : Need → Said
-said (Cores k) = needs k
-said Late = refused 13 0
+abbrev pub said : Option ℕ → Said
+said (Some k) = needs k
+said None = refused 13 0

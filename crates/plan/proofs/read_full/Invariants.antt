@@ -2,8 +2,8 @@
 use Rattle.std.proofs.Common.{◌-◌, ◌≤◌, ◌≡◌, length}
 use Rattle.plan.proofs.read_full.Given as goal
 
-abbrev pub invariant-loop-done : goal.invariant-loop-done
-invariant-loop-done g l = (length l.initial.bytes ≡ length l.bytes) × (l.done ≤ length l.bytes)
+abbrev pub invariant-loop-count : goal.invariant-loop-count
+invariant-loop-count g l = (length l.initial.room ≡ length l.room) × (l.done ≤ length l.room)
 
-abbrev pub decreases-loop-done : goal.decreases-loop-done
-decreases-loop-done g l = length l.initial.bytes - l.done
+abbrev pub decreases-loop-count : goal.decreases-loop-count
+decreases-loop-count g l = length l.initial.room - l.done

@@ -13,6 +13,6 @@ loop-p-preserved c =
       omega arith,
       omega arith,
       c.row_run.auto.cells ∙ c.loop-p.invariant.2,
-      fill_chain (rule_of a.table.now) a.cells.now c.loop-p.cells c.row_run.new.cells a.from c.loop-p.p c.row_stop-stop.result
+      fill_chain (rule_of a.checked.table.now) a.cells.now c.loop-p.cells c.row_run.new.cells a.from c.loop-p.p c.min-stop.result
           c.loop-p.invariant.0 (omega arith) c.loop-p.invariant.3 c.row_run.ensures,
     )

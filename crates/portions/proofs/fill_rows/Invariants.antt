@@ -8,7 +8,7 @@ use Rattle.portions.proofs.fill_rows.Given as goal
 
 abbrev pub invariant-loop-p : goal.invariant-loop-p
 invariant-loop-p l =
-    (l.from ≤ l.p) × (l.p ≤ l.to) × (length l.cells ≡ length l.initial.cells) × (l.cells ≡ fill (rule_of l.table) l.initial.cells l.from (l.p - l.from))
+    (l.from ≤ l.p) × (l.p ≤ l.to) × (length l.cells ≡ length l.initial.cells) × (l.cells ≡ fill (rule_of l.checked.table.now) l.initial.cells l.from (l.p - l.from))
 
 abbrev pub decreases-loop-p : goal.decreases-loop-p
 decreases-loop-p l = l.to - l.p

@@ -1,16 +1,18 @@
+use borrow.Author.Rules.{rules}
 use Rattle.puts.proofs.Filled.{task_filled}
 use Rattle.puts.proofs.fill_task.Goals as goal
 
 pub returns : goal.returns
 returns c =
     let a = c.args in
-    cc (task_filled a.number a.elasticity a.modes a.permitted a.figures.now
+    let t = a.task in
+    cc (task_filled a.number t.elasticity t.modes t.permitted a.figures.now
     (record {
       number = c.ranges.number.fits;
-      elasticity = c.ranges.elasticity.fits;
-      mask = c.ranges.permitted.fits;
+      elasticity = search rules;
+      mask = search rules;
       few = c.requires.1;
-      words = λ i. (c.shared_slice_known-1.given i).fits;
+      words = λ i. (c.type_inv.figures i).fits;
       three = c.requires.2;
     })
     a.out.now c.requires.0)

@@ -10,6 +10,6 @@ returns c =
     let a = c.args in
     let f = c.ranges in
     let xs : List ℕ = a.kind ∷ a.second ∷ a.third ∷ a.fourth ∷ a.fifth ∷ [] in
-    rw (c.put16-3.ensures, c.put16-2.ensures, c.put16.ensures, c.put8-2.ensures, c.put8.ensures)
+    rw (c.put-5.ensures, c.put-4.ensures, c.put-3.ensures, c.put-2.ensures, c.put.ensures)
     (overs_laid front_widths xs a.out.now 0
     (f.kind.fits, (f.second.fits, (f.third.fits, (f.fourth.fits, (f.fifth.fits, tt))))) c.requires)

@@ -1,3 +1,4 @@
+use Rattle.std.proofs.Common.{rules}
 use Prim.Native.Nat.{ℕ}
 use native.Mathlib.Omega.{arith}
 use mathlib.Core.Path.{◌≡◌, sym, ap, ◌∙◌}
@@ -7,19 +8,17 @@ use borrow.Author.Tests.{le-leb, lt-leb}
 use lib.Dec.{leb}
 use Rattle.answer.specs.Said.{Said, refused, task}
 use Rattle.answer.specs.Order.{first}
-use Rattle.answer.proofs.Rows.{stop}
-use Rattle.answer.proofs.Elses.{answered, went_on}
+use Rattle.answer.proofs.Elses.{answered, went_on, passed_up, by_reason}
 use Rattle.block.specs.Layout.{modes_in, figures_in}
 use Rattle.table.specs.Order.{block_at, task_block, task_said, figures_said, ask_task_rows, ask_task_said, ask_mode_rows}
-use Rattle.table.proofs.Readings.{not_task}
 use Rattle.table.proofs.Rows.{ask_mode_first}
 use Rattle.table.proofs.ask_mode.Goals as goal
 
-pub returns-in_default : goal.returns-in_default
-returns-in_default c =
+pub returns-in_err-asked : goal.returns-in_err-asked
+returns-in_err-asked c =
     let a = c.args in
-    let r = c.ask_task-got in
-    stop (ask_task_rows a.table.now a.task) (task_said (task_block a.table.now a.task)) _ (not_task r.result c.in_default.not-Task) r.ensures
+    passed_up figures_said (ask_task_rows a.table.now a.task) _ _ (task_said (task_block a.table.now a.task)) _ (λ z. omega (arith, z))
+    c.from_residual.ensures c.in_err-asked.ensures
     ∙ sym (ask_mode_first a.table.now a.task a.mode _)
 
 -- past the rows before 19
@@ -32,16 +31,16 @@ past bytes i j E k p s q =
     let n : modes_in (task_block bytes i) ≡ k = cc in
     ask_mode_first bytes i j s ∙ went_on rows S (λ z. omega (arith, z)) q _ ∙ ap (λ (x : ℕ). cond (leb x j) (refused 19 0) s) n
 
-pub returns-then-modes-mode : goal.returns-then-modes-mode
-returns-then-modes-mode c =
+pub returns-then-from-mode : goal.returns-then-from-mode
+returns-then-from-mode c =
     let a = c.args in
-    let g = c.in-Task in
-    c.refuse.ensures ∙ sym (past a.table.now a.task a.mode g.elasticity g.modes g.permitted _ g.ensures ∙ rw (le-leb _ _ c.if-modes-mode.true))
+    let g = c.in_ok-asked.asked in
+    by_reason _ _ c.at.ensures ∙ sym (past a.table.now a.task a.mode g.elasticity g.modes g.permitted _ c.in_ok-asked.ensures ∙ rw (le-leb g.modes a.mode (search rules)))
 
 pub returns : goal.returns
 unfolding block_at
 returns c =
     let a = c.args in
-    let g = c.in-Task in
-    c.mode_figures.ensures ∙ ap (λ (b : List ℕ). figures_said (figures_in b a.mode)) c.task_block.ensures.bytes
-    ∙ sym (past a.table.now a.task a.mode g.elasticity g.modes g.permitted _ g.ensures ∙ rw (lt-leb _ _ c.if-modes-mode.false))
+    let g = c.in_ok-asked.asked in
+    ap figures_said c.figures_at.ensures ∙ ap (λ (b : List ℕ). figures_said (figures_in b a.mode)) c.task_block.ensures.bytes
+    ∙ sym (past a.table.now a.task a.mode g.elasticity g.modes g.permitted _ c.in_ok-asked.ensures ∙ rw (lt-leb g.modes a.mode (search rules)))

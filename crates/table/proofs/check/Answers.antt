@@ -1,38 +1,36 @@
+use Rattle.std.proofs.Common.{rules}
 use mathlib.Core.Path.{◌≡◌, sym, ap, ◌∙◌}
 use mathlib.Core.List.{List}
 use Prim.Native.Nat.{ℕ, ◌+◌, ◌-◌}
 use native.Mathlib.Nat.{sub-zero}
 use native.Mathlib.Omega.{arith}
-use Rattle.answer.specs.Said.{Said, task}
+use Rattle.answer.specs.Said.{Said}
 use Rattle.answer.specs.Order.{first}
-use Rattle.answer.proofs.Rows.{stop}
-use Rattle.answer.proofs.Elses.{answered, went_on}
+use Rattle.answer.proofs.Elses.{answered, went_on, passed_up}
 use Rattle.block.specs.Layout.{tasks_in, common_in}
 use Rattle.table.specs.Order.{block_at, header_block, task_block, header_said, task_said, whole_task_rows, front_rows, tasks_rows}
-use Rattle.table.specs.Said.{said}
-use Rattle.table.proofs.Readings.{not_header, not_task}
+use Rattle.table.specs.Said.{the_header}
 use Rattle.table.proofs.Rows.{table_first, tasks_more, tasks_end}
 use Rattle.table.proofs.check.Goals as goal
 
-pub returns-in_default : goal.returns-in_default
-returns-in_default c =
+pub returns-in_err-header : goal.returns-in_err-header
+returns-in_err-header c =
     let bytes = c.args.table.now in
     let S = header_said (header_block bytes) in
-    let r = c.check_front-got in
-    stop (front_rows bytes) S _ (not_header r.result c.in_default.not-Header) r.ensures ∙ sym (table_first bytes S)
+    passed_up the_header (front_rows bytes) _ _ S _ (λ z. omega (arith, z)) c.from_residual.ensures c.in_err-header.ensures ∙ sym (table_first bytes S)
 
-pub loop-i-init : goal.loop-i-init
-loop-i-init c =
+pub loop-task-init : goal.loop-task-init
+loop-task-init c =
     let bytes = c.args.table.now in
     let S = header_said (header_block bytes) in
-    let g = c.in-Header in
+    let g = c.in_ok-header in
     let same = answered (front_rows bytes) S (λ z. omega (arith, z)) g.ensures in
-    let n : tasks_in (header_block bytes) ≡ g.tasks - 0 = sym (sub-zero g.tasks ∙ cc) in
-    let h : common_in (header_block bytes) ≡ g.common = cc in (
+    let n : tasks_in (header_block bytes) ≡ g.header.tasks - 0 = sym (sub-zero g.header.tasks ∙ cc) in
+    let h : common_in (header_block bytes) ≡ g.header.common = cc in (
       same,
       table_first bytes S ∙ went_on (front_rows bytes) S (λ z. omega (arith, z)) g.ensures _
           ∙ ap (λ (k : ℕ). first (tasks_rows bytes (common_in (header_block bytes)) 0 k) S) n
-          ∙ ap (λ (H : ℕ). first (tasks_rows bytes H 0 (g.tasks - 0)) S) h,
+          ∙ ap (λ (H : ℕ). first (tasks_rows bytes H 0 (g.header.tasks - 0)) S) h,
     )
 
 -- what was checked is the task's own block
@@ -40,35 +38,34 @@ checked : (x : Said) (H i : ℕ) (bytes block : List ℕ) → block ≡ block_at
     → x ≡ first (whole_task_rows H i (i + 1) (task_block bytes i)) (task_said (task_block bytes i))
 checked x H i bytes block e q = q ∙ ap (λ (b : List ℕ). first (whole_task_rows H i (i + 1) b) (task_said b)) e
 
-pub returns-in_default-one : goal.returns-in_default-one
+pub returns-in_err-check_task : goal.returns-in_err-check_task
 unfolding block_at
-returns-in_default-one c =
+returns-in_err-check_task c =
     let bytes = c.args.table.now in
-    let l = c.loop-i in
-    let H = c.in-Header.common in
-    let block = task_block bytes l.i in
-    let r = c.check_task-one in
-    stop (whole_task_rows H l.i (l.i + 1) block) (task_said block) _ (not_task r.result c.in_default-one.not-Task)
-    (checked (said r.result) H l.i bytes c.task_block.result.now c.task_block.ensures.bytes r.ensures)
-    ∙ sym (tasks_more bytes H l.i _ (header_said (header_block bytes)) c.loop-i-test.true)
+    let l = c.loop-task in
+    let H = c.in_ok-header.header.common in
+    let block = task_block bytes l.task in
+    passed_up the_header (whole_task_rows H l.task (l.task + 1) block) _ _ (task_said block) _ (λ z. omega (arith, z))
+    c.from_residual-in_err-check_task.ensures
+    (checked _ H l.task bytes c.task_block.result.now c.task_block.ensures.bytes c.in_err-check_task.ensures)
+    ∙ sym (tasks_more bytes H l.task _ (header_said (header_block bytes)) (search rules))
     ∙ sym l.invariant.1
 
-pub loop-i-preserved : goal.loop-i-preserved
+pub loop-task-preserved : goal.loop-task-preserved
 unfolding block_at
-loop-i-preserved c =
+loop-task-preserved c =
     let bytes = c.args.table.now in
-    let l = c.loop-i in
-    let H = c.in-Header.common in
-    let g = c.in-Task in
-    let block = task_block bytes l.i in (
+    let l = c.loop-task in
+    let H = c.in_ok-header.header.common in
+    let block = task_block bytes l.task in (
       l.invariant.0,
-      l.invariant.1 ∙ tasks_more bytes H l.i _ (header_said (header_block bytes)) c.loop-i-test.true
-          ∙ went_on (whole_task_rows H l.i (l.i + 1) block) (task_said block) (λ z. omega (arith, z))
-          (checked (task g.elasticity g.modes g.permitted) H l.i bytes c.task_block.result.now c.task_block.ensures.bytes g.ensures) _,
+      l.invariant.1 ∙ tasks_more bytes H l.task _ (header_said (header_block bytes)) (search rules)
+          ∙ went_on (whole_task_rows H l.task (l.task + 1) block) (task_said block) (λ z. omega (arith, z))
+          (checked _ H l.task bytes c.task_block.result.now c.task_block.ensures.bytes c.in_ok-check_task.ensures) _,
     )
 
 pub returns : goal.returns
 returns c =
     let bytes = c.args.table.now in
-    let l = c.loop-i in
-    l.invariant.0 ∙ sym (l.invariant.1 ∙ tasks_end bytes c.in-Header.common l.i _ _ c.loop-i-test.false)
+    let l = c.loop-task in
+    l.invariant.0 ∙ sym (l.invariant.1 ∙ tasks_end bytes c.in_ok-header.header.common l.task _ _ (search rules))

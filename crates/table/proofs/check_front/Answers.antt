@@ -6,18 +6,16 @@ use native.Mathlib.Omega.{arith}
 use Rattle.answer.specs.Said.{Said, refused, header}
 use Rattle.answer.specs.Order.{first}
 use Rattle.answer.proofs.Bools.{found}
-use Rattle.answer.proofs.Rows.{stop}
-use Rattle.answer.proofs.Elses.{answered, went_on}
+use Rattle.answer.proofs.Elses.{answered, went_on, passed_up, by_reason}
 use Rattle.block.specs.Layout.{tasks_in}
-use Rattle.table.specs.Said.{said}
-use Rattle.table.proofs.Readings.{not_header}
+use Rattle.table.specs.Said.{the_header}
 use Rattle.table.specs.Order.{block_at, header_block, header_rows, header_said, wrong_length, other_length, front_rows}
 use Rattle.table.proofs.Rows.{front_first}
 use Rattle.table.proofs.check_front.Goals as goal
 
 pub returns-then-wrong_length : goal.returns-then-wrong_length
 returns-then-wrong_length c =
-    c.refuse.ensures ∙ sym (front_first c.args.table.now _ ∙ rw (found c.wrong_length.ensures c.if-wrong_length.true))
+    by_reason _ _ c.at.ensures ∙ sym (front_first c.args.table.now _ ∙ rw (found c.wrong_length.ensures c.if-wrong_length.true))
 
 -- past 1
 front : (bytes : List ℕ) (s : Said) → wrong_length bytes ≡ false
@@ -29,14 +27,13 @@ header_read : (x : Said) (bytes block : List ℕ) → block ≡ block_at 0 bytes
     → x ≡ first (header_rows (header_block bytes)) (header_said (header_block bytes))
 header_read x bytes block e q = q ∙ ap (λ (b : List ℕ). first (header_rows b) (header_said b)) e
 
-pub returns-in_default : goal.returns-in_default
+pub returns-in_err-header : goal.returns-in_err-header
 unfolding block_at
-returns-in_default c =
+returns-in_err-header c =
     let bytes = c.args.table.now in
     let block = header_block bytes in
-    let r = c.read_header-got in
-    stop (header_rows block) (header_said block) _ (not_header r.result c.in_default.not-Header)
-    (header_read (said r.result) bytes c.block_from.result.now c.block_from.ensures.bytes r.ensures)
+    passed_up the_header (header_rows block) _ _ (header_said block) _ (λ z. omega (arith, z)) c.from_residual.ensures
+    (header_read _ bytes c.block_from.result.now c.block_from.ensures.bytes c.in_err-header.ensures)
     ∙ sym (front bytes _ (found c.wrong_length.ensures c.if-wrong_length.false))
 
 -- past the header's rows: the numbers are the header's own, and 7 is left
@@ -61,14 +58,14 @@ pub returns-then-other_length : goal.returns-then-other_length
 unfolding block_at
 returns-then-other_length c =
     let bytes = c.args.table.now in
-    let g = c.in-Header in
-    let p = past bytes c.block_from.result.now g.tasks g.cores g.common (found c.wrong_length.ensures c.if-wrong_length.false) c.block_from.ensures.bytes g.ensures in
-    c.refuse-then-other_length.ensures ∙ sym (p.rest (header_said (header_block bytes)) ∙ rw (found c.other_length.ensures c.if-other_length.true))
+    let g = c.in_ok-header.header in
+    let p = past bytes c.block_from.result.now g.tasks g.cores g.common (found c.wrong_length.ensures c.if-wrong_length.false) c.block_from.ensures.bytes c.in_ok-header.ensures in
+    by_reason _ _ c.at-then-other_length.ensures ∙ sym (p.rest (header_said (header_block bytes)) ∙ rw (found c.other_length.ensures c.if-other_length.true))
 
 pub returns : goal.returns
 unfolding block_at
 returns c =
     let bytes = c.args.table.now in
-    let g = c.in-Header in
-    let p = past bytes c.block_from.result.now g.tasks g.cores g.common (found c.wrong_length.ensures c.if-wrong_length.false) c.block_from.ensures.bytes g.ensures in
+    let g = c.in_ok-header.header in
+    let p = past bytes c.block_from.result.now g.tasks g.cores g.common (found c.wrong_length.ensures c.if-wrong_length.false) c.block_from.ensures.bytes c.in_ok-header.ensures in
     p.same ∙ sym (p.rest (header_said (header_block bytes)) ∙ rw (found c.other_length.ensures c.if-other_length.false))

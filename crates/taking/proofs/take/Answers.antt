@@ -1,55 +1,49 @@
 use native.Mathlib.Omega.{arith}
-use mathlib.Core.Path.{ap}
 use lib.ListN.{length}
-use Rattle.answer.specs.declared.Refusal.{Refusal}
-use Rattle.answer.specs.Said.{refused}
+use Rattle.answer.proofs.Elses.{by_reason}
 use Rattle.model.specs.Workspace.{cell_count}
-use Rattle.table.proofs.Readings.{not_header}
 use Rattle.choices.proofs.Tables.{count_is}
-use Rattle.taking.proofs.Lent.{Lent, lent}
+use Rattle.taking.proofs.Lent.{called}
 use Rattle.taking.proofs.Exits.{turned_away, above, below, taken}
 use Rattle.taking.proofs.take.Goals as goal
-use Rattle.taking.proofs.take.Goals.{In-Header}
 
-pub returns-in_default : goal.returns-in_default
-returns-in_default c =
+pub returns-in_err-header : goal.returns-in_err-header
+returns-in_err-header c =
+    turned_away c.args.table.now c.args.cells.now c.args.progress c.args.out.now _ _ c.from_residual.ensures c.in_err-header.ensures
+
+pub invariant_of-checked : goal.invariant_of-checked
+invariant_of-checked c =
     let a = c.args in
-    let r = c.check_lent-got in
-    turned_away a.table.now a.cells.now a.progress a.out.now r.result (not_header r.result c.in_default.not-Header) r.ensures
-    (ap (λ (x : Refusal). refused x.number x.at) c.refusal_of.ensures)
+    let g = c.in_ok-header in
+    record { plannable = (called a.table.now (length a.cells.now) (length a.out.now) g.header (λ i. (c.type_inv.table i).fits) g.ensures).lawful }
 
--- the table is accepted, and what is lent is long enough
-called : (c : In-Header)
-    → Lent c.args.table.now (length c.args.cells.now) (length c.args.out.now) c.in-Header.tasks c.in-Header.cores c.in-Header.common
-called c =
+pub returns-then-cell_count-p : goal.returns-then-cell_count-p
+returns-then-cell_count-p c =
     let a = c.args in
-    let g = c.in-Header in
-    lent a.table.now (length a.cells.now) (length a.out.now) g.tasks g.cores g.common (λ i. (c.type_inv.table i).fits) g.ensures
+    let g = c.in_ok-header in
+    let l = called a.table.now (length a.cells.now) (length a.out.now) g.header (λ i. (c.type_inv.table i).fits) g.ensures in
+    above a.table.now a.cells.now a.progress a.out.now l (by_reason _ _ c.at.ensures) (omega (arith, c.cell_count.ensures, c.if-cell_count-p.true))
 
-pub returns-then-count-p : goal.returns-then-count-p
-returns-then-count-p c =
+pub returns-then-p-cell_count : goal.returns-then-p-cell_count
+returns-then-p-cell_count c =
     let a = c.args in
-    let l = called (goal.at.returns-then-count-p c).In-Header in
-    above a.table.now a.cells.now a.progress a.out.now l c.refuse.ensures c.if-count-p.true
+    let g = c.in_ok-header in
+    let l = called a.table.now (length a.cells.now) (length a.out.now) g.header (λ i. (c.type_inv.table i).fits) g.ensures in
+    below a.table.now a.cells.now a.progress a.out.now l (omega (arith, c.cell_count.ensures, c.if-cell_count-p.false)) (by_reason _ _ c.at-then-p-cell_count.ensures)
+    (omega (arith, c.cell_count-2.ensures, c.if-p-cell_count.true))
 
-pub returns-then-p-count : goal.returns-then-p-count
-returns-then-p-count c =
-    let a = c.args in
-    let l = called (goal.at.returns-then-p-count c).In-Header in
-    below a.table.now a.cells.now a.progress a.out.now l c.if-count-p.false c.refuse-then-p-count.ensures c.if-p-count.true
-
-pub take_from-requires-clause-lawful : goal.take_from-requires-clause-lawful
-take_from-requires-clause-lawful c =
-    (called (goal.at.take_from-requires-clause-lawful c).In-Header).lawful
-
-pub take_from-requires-clause-room : goal.take_from-requires-clause-room
+pub take_from-requires : goal.take_from-requires
 unfolding cell_count
-take_from-requires-clause-room c =
-    let l = called (goal.at.take_from-requires-clause-room c).In-Header in
+take_from-requires c =
+    let a = c.args in
+    let g = c.in_ok-header in
+    let l = called a.table.now (length a.cells.now) (length a.out.now) g.header (λ i. (c.type_inv.table i).fits) g.ensures in
     (omega (arith, count_is l.lawful, l.room), omega (arith, l.lawful.tasks, l.space))
 
 pub returns : goal.returns
 returns c =
     let a = c.args in
-    let l = called (goal.at.returns c).In-Header in
-    taken a.table.now a.cells.now a.progress a.out.now l c.if-count-p.false c.if-p-count.false c.take_from.ensures
+    let g = c.in_ok-header in
+    let l = called a.table.now (length a.cells.now) (length a.out.now) g.header (λ i. (c.type_inv.table i).fits) g.ensures in
+    taken a.table.now a.cells.now a.progress a.out.now l (omega (arith, c.cell_count.ensures, c.if-cell_count-p.false))
+    (omega (arith, c.cell_count-2.ensures, c.if-p-cell_count.false)) c.take_from.ensures

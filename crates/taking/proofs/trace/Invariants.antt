@@ -1,22 +1,20 @@
--- The invariant of the loop over the tasks is `AtTask`; that of the search for the lowest mode: no mode before j keeps the cell's cost.
-use Prim.Native.Nat.{ℕ, ◌-◌, ◌≤◌, ◌<◌}
+-- The invariant of the loop over the tasks is `AtTask`; that of the loop over a task's modes: nothing found or taken yet, and no mode
+-- before j keeps the cell's cost.
+use Prim.Native.Nat.{◌≤◌}
 use mathlib.Core.Path.{◌≡◌}
-use mathlib.Core.Bool.{false}
-use Rattle.model.specs.Taking.{keeps}
-use Rattle.cells.specs.inner.Rows.{row_from}
-use Rattle.taking.proofs.Helds.{held_at}
+use mathlib.Core.List.{map}
+use Rattle.model.specs.Taking.{lowest}
+use Rattle.cells.specs.inner.Rows.{held, row_reads}
 use Rattle.taking.proofs.Tracing.{AtTask}
 use Rattle.taking.proofs.trace.Given as goal
 
-abbrev pub invariant-lowest : goal.invariant-lowest
-invariant-lowest l =
-    (l.j ≤ l.count) × ((k : ℕ) → k < l.j → keeps (row_from l.cells l.next) l.column l.cell (held_at l.need l.cost k) ≡ false)
-
-abbrev pub decreases-lowest : goal.decreases-lowest
-decreases-lowest l = l.count - l.j
-
 abbrev pub invariant-tasks : goal.invariant-tasks
-invariant-tasks l = AtTask l.table l.cells l.n l.m l.used l.modes l.i l.column l.start
+invariant-tasks l =
+    (l.i-iterator.iter.size ≡ l.width)
+    × AtTask l.checked.table.now l.cells l.checked.header.tasks l.checked.header.cores l.used l.found.items l.i-iterator.count l.column
+    l.i-iterator.iter.rest.now l.row
 
-abbrev pub decreases-tasks : goal.decreases-tasks
-decreases-tasks l = l.n - l.i
+abbrev pub invariant-loop-j : goal.invariant-loop-j
+invariant-loop-j l =
+    (l.found ≡ l.initial.found) × (l.column ≡ l.initial.column)
+    × (l.j ≤ lowest (map held l.mode-items) (row_reads l.next) l.initial.column l.cell)

@@ -2,7 +2,7 @@
 use Rattle.std.specs.Prelude.{ℕ, List}
 use Rattle.model.specs.Taking.{take_rows}
 use Rattle.choices.specs.Tasks.{tasks_of_table, cores_of_table}
-use Rattle.taking.specs.declared.Taken.{Taken}
+use Rattle.taking.specs.Said.{Taken}
 use Rattle.taking.specs.Take.{cell_of, TookBy}
 
 abbrev pub TookFrom : List ℕ → List ℕ → List ℕ → Taken → List ℕ → Type 0

@@ -1,54 +1,48 @@
-use mathlib.Core.Path.{◌≡◌, sym, ap, ◌∙◌}
-use mathlib.Core.List.{List}
-use Prim.Native.Nat.{ℕ, ◌+◌, ◌-◌, ◌≤◌}
-use native.Mathlib.Omega.{arith}
-use lib.ListN.{length, drop, get_or}
-use Rattle.answer.specs.declared.Refusal.{Refusal}
-use Rattle.answer.specs.Said.{refused, written}
+use Rattle.std.proofs.Common.{◌≡◌, ◌∙◌, refl, sym, arith, ℕ, suc, ◌+◌, ◌/◌, ◌<◌, List, [], ◌∷◌, length, get_or, drop, map}
+use Rattle.std.specs.Simd.{first_chunks}
+use Rattle.std.proofs.lemmas.List.{at_drop_more, at_drop_all}
 use Rattle.answer.specs.Order.{first}
-use Rattle.answer.proofs.Rows.{stop}
-use Rattle.answer.proofs.Elses.{went_on}
-use Rattle.block.specs.Layout.{Figures, listed, threes}
+use Rattle.answer.proofs.Rows.{first_append}
+use Rattle.answer.specs.Said.{written}
+use Rattle.answer.proofs.Elses.{went_on, passed_up}
+use Rattle.block.specs.Layout.{threes}
 use Rattle.block.specs.Tests.{figure_rows, modes_rows}
-use Rattle.block.proofs.Figures.{lent_more, lent_end}
 use Rattle.table.specs.Order.{figures_said}
-use Rattle.table.proofs.Readings.{not_figures, handed_on}
+use Rattle.writer.proofs.test_modes.Invariants.{three, answer_by}
 use Rattle.writer.proofs.test_modes.Goals as goal
 
--- the mode at hand
-abbrev here : List ℕ → ℕ → Figures
-here lent from = listed (get_or lent from 0) (get_or lent (from + 1) 0) (get_or lent (from + 2) 0)
+-- the chunks are the modes
+chunked : (xs : List ℕ) → threes xs ≡ map three (first_chunks 3 (length xs / 3) xs)
+unfolding threes
+chunked [] = refl
+chunked (a ∷ []) = refl
+chunked (a ∷ b ∷ []) = refl
+chunked (a ∷ b ∷ c ∷ xs) = let e : length (a ∷ b ∷ c ∷ xs) / 3 ≡ suc (length xs / 3) = omega arith in rw (e, chunked xs)
 
--- and those behind it
-further : (lent : List ℕ) (H from : ℕ) → first (modes_rows 0 H (threes lent)) written ≡ first (modes_rows 0 H (threes (drop from lent))) written
-    → 3 ≤ length lent - from
-    → first (modes_rows 0 H (threes lent)) written
-    ≡ first (figure_rows 0 H (here lent from)) (first (modes_rows 0 H (threes (drop (from + 3) lent))) written)
-further lent H from q more = q ∙ lent_more lent 0 H from written more
+-- one mode, then those after it
+one_on : (H : ℕ) (modes : List (List ℕ)) (i : ℕ) → i < length modes
+    → answer_by H (drop i modes) ≡ first (figure_rows 0 H (three (get_or modes i []))) (answer_by H (drop (i + 1) modes))
+unfolding modes_rows
+one_on H modes i h =
+    at_drop_more (answer_by H) modes i [] h
+    ∙ first_append (figure_rows 0 H (three (get_or modes i []))) (modes_rows 0 H (map three (drop (i + 1) modes))) written
 
-pub returns-in_default : goal.returns-in_default
-returns-in_default c =
-    let a = c.args in
-    let l = c.loop-from in
-    let r = c.test_figures-one in
-    let mode = here a.figures.now l.from in
-    let rows = figure_rows 0 a.common mode in
-    ap (λ (x : Refusal). refused x.number x.at) c.refusal_of.ensures
-    ∙ handed_on rows r.result _ (λ t. stop rows (figures_said mode) t (not_figures r.result c.in_default.not-Figures) r.ensures)
-    ∙ sym (further a.figures.now a.common l.from l.invariant.1 c.loop-from-test.true)
+pub loop-work-init : goal.loop-work-init
+loop-work-init c = rw (c.as_chunks.ensures.front, chunked)
 
-pub loop-from-preserved : goal.loop-from-preserved
-loop-from-preserved c =
-    let a = c.args in
-    let l = c.loop-from in
-    let mode = here a.figures.now l.from in (
-      omega arith,
-      further a.figures.now a.common l.from l.invariant.1 c.loop-from-test.true
-          ∙ went_on (figure_rows 0 a.common mode) (figures_said mode) (λ z. omega (arith, z)) c.in-Figures.ensures _,
-    )
+pub returns-in_err-test_figures : goal.returns-in_err-test_figures
+returns-in_err-test_figures c =
+    let f = three (get_or c.as_chunks.result.0.now c.loop-work.work-index []) in
+    passed_up (λ x. written) (figure_rows 0 c.args.common f) _ _ (figures_said f) _ (λ z. omega (arith, z)) c.from_residual.ensures
+    c.in_err-test_figures.ensures
+    ∙ sym (c.loop-work.invariant ∙ one_on _ _ _ c.loop-work-test.true)
+
+pub loop-work-preserved : goal.loop-work-preserved
+loop-work-preserved c =
+    let f = three (get_or c.as_chunks.result.0.now c.loop-work.work-index []) in
+    c.loop-work.invariant ∙ one_on _ _ _ c.loop-work-test.true
+    ∙ went_on (figure_rows 0 c.args.common f) (figures_said f) (λ z. omega (arith, z)) c.in_ok-test_figures.ensures _
 
 pub returns : goal.returns
-returns c =
-    let a = c.args in
-    let l = c.loop-from in
-    sym (l.invariant.1 ∙ lent_end a.figures.now 0 a.common l.from written c.loop-from-test.false)
+unfolding modes_rows
+returns c = sym (c.loop-work.invariant ∙ at_drop_all (answer_by c.args.common) _ _ c.loop-work-test.false)

@@ -1,43 +1,39 @@
-use mathlib.Core.Path.{◌≡◌, ap, ◌∙◌}
-use mathlib.Core.List.{◌++◌}
-use Prim.Native.Nat.{ℕ}
+use mathlib.Core.Path.{refl}
+use mathlib.Core.List.{[], ◌++◌}
 use native.Mathlib.Omega.{arith}
 use lib.ListN.{length, drop}
 use Rattle.answer.specs.Said.{written}
-use Rattle.answer.specs.Order.{first}
-use Rattle.answer.proofs.Elses.{passed}
-use Rattle.answer.proofs.Outcomes.{goes, stops}
+use Rattle.answer.proofs.Bools.{found}
+use Rattle.answer.proofs.Elses.{passed, by_reason, left_as_it_was}
+use Rattle.answer.proofs.Outcomes.{given, goes, behind}
+use Rattle.block.specs.Tests.{wrong_limits}
 use Rattle.block.specs.Whole.{header_bytes}
-use Rattle.writer.specs.declared.Written.{Written}
-use Rattle.writer.specs.Said.{said}
 use Rattle.writer.specs.Order.{limit_rows, room_rows, write_header_rows}
-use Rattle.writer.specs.inner.Turns.{in_turn}
-use Rattle.writer.proofs.Answers.{not_done, rows_in_turn}
 use Rattle.writer.proofs.write_header.Goals as goal
 
--- the answer is by the writer's rows
-answer : (n m H room : ℕ) (one next r : Written) → said one ≡ first (limit_rows n m H) written → said next ≡ first (room_rows room) written
-    → r ≡ in_turn one next → said r ≡ first (write_header_rows n m H room) written
+pub returns-then-wrong_limits : goal.returns-then-wrong_limits
 unfolding write_header_rows
-answer n m H room one next r p q e = ap said e ∙ rows_in_turn (limit_rows n m H) (room_rows room) one next p q
+returns-then-wrong_limits c =
+    let h = c.args.header in
+    given [] (room_rows (length c.args.out.now)) 5 (wrong_limits h.tasks h.cores h.common) tt (found c.wrong_limits.ensures c.if-wrong_limits.true)
+    (by_reason _ _ c.at.ensures)
 
-pub returns-in_default : goal.returns-in_default
-returns-in_default c =
-    let a = c.args in
-    let one = c.test_limits-limits in
-    let next = c.test_room-room in
-    let r = c.in_turn-answer in
-    stops (write_header_rows a.tasks a.cores a.common (length a.out.now)) written written a.out.now
-    (header_bytes a.tasks a.cores a.common ++ drop 512 a.out.now) (not_done r.result c.in_default.not-Done)
-    (answer a.tasks a.cores a.common (length a.out.now) one.result next.result r.result one.ensures next.ensures r.ensures)
+pub returns-in_err-test_room : goal.returns-in_err-test_room
+unfolding write_header_rows
+returns-in_err-test_room c =
+    let h = c.args.header in
+    let before = c.args.out.now in
+    let after = header_bytes h.tasks h.cores h.common ++ drop 512 before in
+    let room = room_rows (length before) in
+    behind (limit_rows h.tasks h.cores h.common) room written before after (found c.wrong_limits.ensures c.if-wrong_limits.false, tt)
+    (left_as_it_was (λ x. written) room _ _ written written before after (λ z. omega (arith, z)) c.from_residual.ensures c.in_err-test_room.ensures)
 
--- behind a good answer no row is given
 pub returns : goal.returns
+unfolding write_header_rows
 returns c =
-    let a = c.args in
-    let one = c.test_limits-limits in
-    let next = c.test_room-room in
-    let rows = write_header_rows a.tasks a.cores a.common (length a.out.now) in
-    let q = answer a.tasks a.cores a.common (length a.out.now) one.result next.result _ one.ensures next.ensures c.in-Done.ensures in
-    goes rows written a.out.now (header_bytes a.tasks a.cores a.common ++ drop 512 a.out.now) (passed rows written (λ z. omega (arith, z)) q)
-    (ap said c.in-Done.is) c.fill_header.ensures
+    let h = c.args.header in
+    let before = c.args.out.now in
+    let room = room_rows (length before) in
+    goes (limit_rows h.tasks h.cores h.common ++ room) written before (header_bytes h.tasks h.cores h.common ++ drop 512 before)
+    (found c.wrong_limits.ensures c.if-wrong_limits.false, passed room written (λ z. omega (arith, z)) c.in_ok-test_room.ensures) refl
+    c.fill_header.ensures

@@ -1,72 +1,69 @@
-use mathlib.Core.Path.{◌≡◌, ap, ◌∙◌}
-use mathlib.Core.List.{List, ◌++◌}
-use Prim.Native.Nat.{ℕ}
-use native.Mathlib.Omega.{arith}
-use lib.ListN.{length, drop}
-use Rattle.answer.specs.Said.{written}
-use Rattle.answer.specs.Order.{Row, first, afterwards}
+use Rattle.std.proofs.Common.{◌≡◌, refl, arith, ℕ, List, [], ◌++◌, length}
+use Rattle.std.specs.Result.{IsErr, IsErrAnd}
+use Rattle.answer.specs.Said.{written, refused, number_of}
+use Rattle.answer.specs.declared.Refusal.{Refusal}
+use Rattle.answer.specs.Order.{Row, first, afterwards, NoneGiven, Outcome}
 use Rattle.answer.proofs.Rows.{append_none}
-use Rattle.answer.proofs.Elses.{passed}
-use Rattle.answer.proofs.Outcomes.{goes, joined, behind, stops}
+use Rattle.answer.proofs.Elses.{passed, left_as_it_was}
+use Rattle.answer.proofs.Outcomes.{goes, joined, behind}
 use Rattle.block.specs.Layout.{threes}
 use Rattle.block.specs.Tests.{modes_rows}
-use Rattle.block.specs.Whole.{task_bytes}
-use Rattle.writer.specs.declared.Written.{Written}
-use Rattle.writer.specs.Said.{said}
+use Rattle.block.specs.declared.Task.{Task}
+use Rattle.writer.specs.Said.{Written, said}
 use Rattle.writer.specs.Order.{number_rows, room_rows, write_task_rows}
-use Rattle.writer.specs.inner.Turns.{in_turn}
-use Rattle.writer.proofs.Answers.{not_done, rows_in_turn}
 use Rattle.writer.proofs.write_task.Goals as goal
 
--- the rows behind those of the numbers
-abbrev later : ℕ → List ℕ → ℕ → List Row
-later H figures room = modes_rows 0 H (threes figures) ++ room_rows room
+-- the rows of the numbers
+abbrev numbers : ℕ → ℕ → Task → List ℕ → List Row
+numbers H number t figures = number_rows H number t.elasticity t.modes t.permitted (length figures)
 
--- the buffer where no row is given
-abbrev filled : ℕ → ℕ → ℕ → ℕ → List ℕ → List ℕ → List ℕ
-filled number E modes permitted figures before = task_bytes number E modes permitted figures ++ drop 512 before
+-- an answer that is no refusal: none of its rows is given
+fine : (A : List Row) → written ≡ first A written → NoneGiven A
+fine A q = passed A written (λ z. omega (arith, z)) q
 
--- the answer is by the rows behind those of the numbers
-answer : (H : ℕ) (figures : List ℕ) (room : ℕ) (one next r : Written) → said one ≡ first (modes_rows 0 H (threes figures)) written
-    → said next ≡ first (room_rows room) written → r ≡ in_turn one next → said r ≡ first (later H figures room) written
-answer H figures room one next r p q e = ap said e ∙ rows_in_turn (modes_rows 0 H (threes figures)) (room_rows room) one next p q
+-- a refusal by the rows A, behind P: the buffer stays as it was
+stopped : (P A B : List Row) (before after : List ℕ) (r : Refusal) (x : Written) → NoneGiven P → IsErr x × IsErrAnd x (λ e. e ≡ r)
+    → refused (number_of r.reason) r.at ≡ first A written → Outcome (P ++ (A ++ B)) written before after (said x) before
+stopped P A B before after r x none p q =
+    behind P (A ++ B) written before after none
+    (joined A B written before after
+    (left_as_it_was (λ x. written) A r x written (first B written) before (afterwards B before after) (λ z. omega (arith, z)) p q))
 
-pub returns-in_default : goal.returns-in_default
+pub returns-in_err-test_numbers : goal.returns-in_err-test_numbers
 unfolding write_task_rows
-returns-in_default c =
+returns-in_err-test_numbers c =
     let a = c.args in
-    let r = c.test_numbers-numbers in
-    let rows = number_rows a.common a.number a.elasticity a.modes a.permitted (length a.figures.now) in
-    let more = later a.common a.figures.now (length a.out.now) in
-    let after = filled a.number a.elasticity a.modes a.permitted a.figures.now a.out.now in
-    joined rows more written a.out.now after
-    (stops rows written (first more written) a.out.now (afterwards more a.out.now after) (not_done r.result c.in_default.not-Done) r.ensures)
+    let more = modes_rows 0 a.common (threes a.figures.now) ++ room_rows (length a.out.now) in
+    stopped [] (numbers a.common a.number a.task a.figures.now) more _ _ _ _ tt c.from_residual.ensures c.in_err-test_numbers.ensures
 
--- behind good numbers none of their rows is given
-pub returns-in_default-rest : goal.returns-in_default-rest
+pub returns-in_err-test_modes : goal.returns-in_err-test_modes
 unfolding write_task_rows
-returns-in_default-rest c =
+returns-in_err-test_modes c =
     let a = c.args in
-    let one = c.test_modes-each_mode in
-    let next = c.test_room-room in
-    let r = c.in_turn-rest in
-    let rows = number_rows a.common a.number a.elasticity a.modes a.permitted (length a.figures.now) in
-    let more = later a.common a.figures.now (length a.out.now) in
-    let after = filled a.number a.elasticity a.modes a.permitted a.figures.now a.out.now in
-    behind rows more written a.out.now after (passed rows written (λ z. omega (arith, z)) c.in-Done.ensures)
-    (stops more written written a.out.now after (not_done r.result c.in_default-rest.not-Done)
-    (answer a.common a.figures.now (length a.out.now) one.result next.result r.result one.ensures next.ensures r.ensures))
+    let rows = numbers a.common a.number a.task a.figures.now in
+    let modes = modes_rows 0 a.common (threes a.figures.now) in
+    stopped rows modes (room_rows (length a.out.now)) _ _ _ _ (fine rows c.in_ok-test_numbers.ensures)
+    c.from_residual-in_err-test_modes.ensures c.in_err-test_modes.ensures
 
--- behind a good answer none of all the rows is given
+pub returns-in_err-test_room : goal.returns-in_err-test_room
+unfolding write_task_rows
+returns-in_err-test_room c =
+    let a = c.args in
+    let rows = numbers a.common a.number a.task a.figures.now in
+    let modes = modes_rows 0 a.common (threes a.figures.now) in
+    stopped (rows ++ modes) (room_rows (length a.out.now)) [] _ _ _ _
+    (append_none rows modes (fine rows c.in_ok-test_numbers.ensures) (fine modes c.in_ok-test_modes.ensures))
+    c.from_residual-in_err-test_room.ensures c.in_err-test_room.ensures
+
+-- behind all of them the block is written
 pub returns : goal.returns
 unfolding write_task_rows
 returns c =
     let a = c.args in
-    let one = c.test_modes-each_mode in
-    let next = c.test_room-room in
-    let rows = number_rows a.common a.number a.elasticity a.modes a.permitted (length a.figures.now) in
-    let more = later a.common a.figures.now (length a.out.now) in
-    let q = answer a.common a.figures.now (length a.out.now) one.result next.result _ one.ensures next.ensures c.in-Done-rest.ensures in
-    goes (rows ++ more) written a.out.now (filled a.number a.elasticity a.modes a.permitted a.figures.now a.out.now)
-    (append_none rows more (passed rows written (λ z. omega (arith, z)) c.in-Done.ensures) (passed more written (λ z. omega (arith, z)) q))
-    (ap said c.in-Done-rest.is) c.fill_task.ensures
+    let rows = numbers a.common a.number a.task a.figures.now in
+    let modes = modes_rows 0 a.common (threes a.figures.now) in
+    let room = room_rows (length a.out.now) in
+    goes (rows ++ (modes ++ room)) written _ _
+    (append_none rows (modes ++ room) (fine rows c.in_ok-test_numbers.ensures)
+    (append_none modes room (fine modes c.in_ok-test_modes.ensures) (fine room c.in_ok-test_room.ensures)))
+    refl c.fill_task.ensures

@@ -179,10 +179,10 @@ pub fn report() -> Kept {
 fn introduce() {
     println!("`reference` is the planner once more in plain safe Rust, written from the document alone, neither slowed nor tuned.");
     println!("`reference::same_loops`, behind the feature `same-loops`, is a copy with the planner's own loops: weights of 16 bits in a");
-    println!("block's check, unused bytes joined and looked at once, a task's needs and costs in two arrays, the ceiling held once");
-    println!("against each cell of the next row and once against the least sum, and a whole plan with one check that adds up the least");
-    println!("needs before it fills a cell. The plain reference has none of these, and in a whole plan fills all cells and puts the");
-    println!("workspace back where no plan fits. Times are in microseconds.\n");
+    println!("block's check, unused bytes joined and looked at once, a task's modes loaded before its row is filled, the ceiling held");
+    println!("once against each cell of the next row and once against the least sum, no sum for a mode that does not fit, and a whole");
+    println!("plan with one check that adds up the least needs before it fills a cell. The plain reference has none of these, and in");
+    println!("a whole plan fills all cells and puts the workspace back where no plan fits. Times are in microseconds.\n");
     println!("- least: the planner's least time. The ratios are of least times, its own over that of the same loops and over that of the");
     println!(
         "  plain reference, the three measured in turn on the same table and the same buffers."

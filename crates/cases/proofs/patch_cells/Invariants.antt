@@ -1,5 +1,0 @@
--- A cell a turn.
-use Rattle.cases.proofs.patch_cells.Given as goal
-
-abbrev pub decreases-loop-left : goal.decreases-loop-left
-decreases-loop-left l = l.left
