@@ -53,9 +53,6 @@ in_limits t i l h =
       work = λ j below. (l.mode i j h below).work_high;
     }
 
-all_meet : (t : Numbers) (i : ℕ) → Lawful t → i < t.tasks → AllMeet (t.task i)
-all_meet t i l h j below = (l.mode i j h below).meeting
-
 -- within them a demand is at most 64 times the largest common period
 pub demand_limit : (H : ℕ) (t : TaskNumbers) (j : ℕ) → InLimits H t → j < t.modes → demand_at H t j ≤ 6400000
 demand_limit H t j l h = demand_within (t.figures j).work (t.figures j).period H (l.work j h) l.common

@@ -30,15 +30,8 @@ up_is a b hb =
     let next : (div_ceil a b + 1) * b ≡ div_ceil a b * b + b = omega arith in
     sym (div-eq_of_lt-le {k = div_ceil a b} b (omega (arith, bounds.1)) (omega (arith, bounds.0, next)))
 
--- which of the three cases `cores` is in
-pub cores_late : (C L T : ℕ) → meets C L T ≡ false → refused 13 0 ≡ cores_said C L T
-cores_late C L T e = rw e
-
 pub cores_one : (C L T : ℕ) → meets C L T ≡ true → C ≡ L → needs 1 ≡ cores_said C L T
 cores_one C L T e same = ⊎_elim (λ h. simp (eq-eqb C L h.0, le-leb L T h.1)) (λ h. absurd (omega arith)) (meets_fact C L T e)
 
 pub meets_more : (C L T : ℕ) → meets C L T ≡ true → (C ≡ L → ⊥) → (L < T) × (L < C)
 meets_more C L T e ne = ⊎_elim (λ h. absurd (ne h.0)) (λ h. h) (meets_fact C L T e)
-
-pub cores_more : (C L T : ℕ) → meets C L T ≡ true → (C ≡ L → ⊥) → needs (rounded_up (C - L) (T - L)) ≡ cores_said C L T
-cores_more C L T e ne = let h = meets_more C L T e ne in simp (ne_eqb C L ne, lt-ltb L T h.0, lt-ltb L C h.1)

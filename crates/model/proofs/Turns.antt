@@ -56,8 +56,3 @@ module _ {A : Type 0} where
       ∙ rw (add-one, drop-cons was i v, each_more f c i, e)
       (set_at (each_from f c i) _ (drop (suc i) was) _ i (each_length f c i)
       ∙ sym (append_snoc (each_from f c i) _ (drop (suc i) was)))
-
-  pub each_over : (f : ℕ → A) (c : ℕ) (was is : List A) (i : ℕ) → length was ≤ i → i ≤ length was → is ≡ each_from f c i ++ drop i was
-      → is ≡ each_from f c (length was)
-  each_over f c was is i h k q =
-      q ∙ rw (drop_of_length-le was h) (append-nil (each_from f c i) ∙ ap (each_from f c) (le_antisymm k h))

@@ -4,7 +4,7 @@ use Prim.Native.Nat.{◌+◌}
 use native.Mathlib.Omega.{arith}
 use Rattle.model.specs.Cells.{least}
 use Rattle.model.proofs.Least.{least_cong}
-use Rattle.model.proofs.Turns.{each_put, each_over}
+use Rattle.model.proofs.Turns.{each_put}
 use Rattle.cells.specs.inner.Rows.{held, row_reads}
 use Rattle.cells.proofs.fill_run.Goals as goal
 
@@ -20,9 +20,3 @@ loop-i-preserved c =
     each_put (least t (row_reads a.next.now)) a.column a.cells.now l.cells l.i c.least.result (omega arith)
     (c.least.ensures ∙ least_cong t (row_reads _) (row_reads a.next.now) (a.column + l.i) (λ k low. c.new-held.ensures k (omega arith)))
     l.invariant
-
-pub returns : goal.returns
-returns c =
-    let a = c.args in
-    each_over (least (map held a.modes.now) (row_reads a.next.now)) a.column a.cells.now c.loop-i.cells c.loop-i.i
-    (omega arith) (omega arith) c.loop-i.invariant

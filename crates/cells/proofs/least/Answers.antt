@@ -1,4 +1,4 @@
-use mathlib.Core.Path.{◌≡◌, refl, sym, ap, ◌∙◌}
+use mathlib.Core.Path.{◌≡◌, sym, ap, ◌∙◌}
 use native.Mathlib.Omega.{arith}
 use Rattle.std.specs.List.{fold}
 use Rattle.std.proofs.lemmas.List.{at_drop_more, at_drop_all}
@@ -6,9 +6,6 @@ use Rattle.model.specs.Cells.{reads}
 use Rattle.cells.proofs.Counts.{of_two, lesser, least_is}
 use Rattle.cells.proofs.least.Goals as goal
 use Rattle.cells.proofs.least.Goals.{in-Some, in_default}
-
-pub loop-mode-init : goal.loop-mode-init
-loop-mode-init c = refl
 
 -- the mode's offer counts among those taken in
 pub loop-mode-preserved : goal.loop-mode-preserved
