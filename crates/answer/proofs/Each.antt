@@ -5,9 +5,9 @@ use mathlib.Core.Path.{◌≡◌, refl, sym, ap, ◌∙◌}
 use mathlib.Core.List.{List, [], ◌∷◌, ◌++◌}
 use mathlib.Core.Bool.{Bool, true, false, ◌&&◌, ◌||◌}
 use mathlib.Core.Logic.{◌⊎◌, inl, inr, ⊎_elim}
-use lib.Dec.{T, eqb}
+use lib.Dec.{T, eqb, ltb}
 use lib.ListN.{length}
-use borrow.Author.Tests.{eqb-true}
+use borrow.Author.Tests.{eqb-true, ltb-true}
 use Rattle.answer.specs.Said.{Said, refused, number_of}
 use Rattle.answer.specs.Order.{Row, row, first, afterwards, Outcome, NoneGiven, is_one_of, OneOf}
 use Rattle.answer.proofs.Rows.{kind}
@@ -80,6 +80,21 @@ module _ (P : ℕ → ℕ → Type 0) where
     -- with as many values behind it as were lent
     pub some_long : (o : Some) → (NoneGiven A → length after ≡ length before) → length o.left ≡ length before
     some_long o long = ⊎_elim (λ same. ap length same) (λ new. ap length new.1 ∙ long new.0) o.kept
+
+-- numbers of a list that are all below another: of any numbers, a reason's or not
+abbrev pub all_below : ℕ → List ℕ → Bool
+all_below b [] = true
+all_below b (x ∷ xs) = ltb x b && all_below b xs
+
+pub one_below : (b : ℕ) (xs : List ℕ) → T (all_below b xs) → (k : ℕ) → OneOf xs k → k < b
+one_below b [] all k one = absurd one
+one_below b (x ∷ xs) all k one = go (ltb x b) refl (eqb k x) refl all one (λ a o. one_below b xs a k o)
+  where
+    go : (t : Bool) → ltb x b ≡ t → (e : Bool) → eqb k x ≡ e → T (t && all_below b xs) → T (e || is_one_of xs k)
+        → (T (all_below b xs) → OneOf xs k → k < b) → k < b
+    go true h true e a o ih = rw (eqb-true k x e) (ltb-true x b h)
+    go true h false e a o ih = ih a o
+    go false h e is a o ih = absurd a
 
 -- each of these is the number of a reason
 abbrev pub all_known : List ℕ → Bool

@@ -1,5 +1,5 @@
 -- What an answer says of the rows that it came from. A is the rows, s the rest behind them, x what is said. Assumes nothing.
-use mathlib.Core.Path.{◌≡◌, sym, ap, ◌∙◌}
+use mathlib.Core.Path.{◌≡◌, refl, sym, ap, ◌∙◌}
 use Rattle.std.specs.Prelude.{Result, Ok, Err}
 use Rattle.std.specs.Result.{IsErr, IsErrAnd}
 use mathlib.Core.List.{List}
@@ -9,6 +9,15 @@ use Rattle.answer.specs.declared.Refusal.{Refusal}
 use Rattle.answer.specs.Order.{Row, first, NoneGiven, Outcome}
 use Rattle.answer.proofs.Rows.{kind, first_none, none_first, stop}
 use Rattle.answer.proofs.Outcomes.{stops}
+
+-- where `unsaid` undoes `said`, what is said of an answer is the whole of it: of any type of answers, where `said_one` is of a `Result`
+pub one_said : {R : Type 0} (said : R → Said) (unsaid : Said → R) → ((r : R) → unsaid (said r) ≡ r) → {s : Said} (x y : R) → said x ≡ s → said y ≡ s → x ≡ y
+one_said said unsaid back x y p q = sym (back x) ∙ ap unsaid (p ∙ sym q) ∙ back y
+
+-- an answer that isn't what was asked for is a refusal, and so says nothing of another kind: what a `let .. else` leaves open
+pub not_given : {A : Type 0} (says : A → Said) (x : Result A Refusal) → ((y : A) → x ≡ Ok y → ⊥) → kind (said_of says x) ≡ 0
+not_given says (Ok y) other = absurd (other y refl)
+not_given says (Err r) other = refl
 
 -- x is no refusal: no row was given, x is the rest, and any other rest would follow too
 module _ (A : List Row) {x : Said} (s : Said) (other : kind x ≡ 0 → ⊥) (q : x ≡ first A s) where

@@ -27,7 +27,7 @@ module _ (T : RattleType) (laws : Laws T) (told : Told T) where
       Is (row (the_type T refusal.the_row)) x
       (val (the_type T refusal.the_row) (the_laws T refusal.the_row laws refusal_laws.the_row_laws told refusal_laws.the_told) x ∷ [])
 
-  held_refusal : (r : Reason) (at : ℕ) → at < 2 ^ 32 → Held (Err (record { reason = r; at = at }))
+  pub held_refusal : (r : Reason) (at : ℕ) → at < 2 ^ 32 → Held (Err (record { reason = r; at = at }))
   held_refusal Length at h = (_, (refl, (_, (refl, ((_, (refl, ((_, (refl, (tt, (refl, tt)))), ((refl, h), tt)))), tt)))))
   held_refusal Check at h = (_, (refl, (_, (refl, ((_, (refl, ((_, (refl, (tt, (refl, tt)))), ((refl, h), tt)))), tt)))))
   held_refusal Kind at h = (_, (refl, (_, (refl, ((_, (refl, ((_, (refl, (tt, (refl, tt)))), ((refl, h), tt)))), tt)))))

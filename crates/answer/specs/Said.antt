@@ -1,6 +1,5 @@
 -- What an answer says, in the document's numbers and values.
-use Rattle.std.specs.Prelude.{ℕ, Bool, List, ◌++◌, Result, Ok, Err, codes}
-use Rattle.std.specs.Fmt.{decimal}
+use Rattle.std.specs.Prelude.{ℕ, Bool, Result, Ok, Err}
 use Rattle.answer.specs.declared.Reason.{Reason}
 use Rattle.answer.specs.declared.Reason.TheVariants.{Length, Check, Kind, Edition, Limits, Unused, Blocks, Number, Shape, Permitted, Period, Work, Late, NoPlan, Room, Beyond, Unfilled, Altered, NoneSuch}
 use Rattle.answer.specs.declared.Refusal.{Refusal}
@@ -51,7 +50,3 @@ number_of NoneSuch = 19
 abbrev pub said_of : {A : Type 0} → (A → Said) → Result A Refusal → Said
 said_of says (Ok x) = says x
 said_of says (Err r) = refused (number_of r.reason) r.at
-
--- a refusal as the programs print it
-abbrev pub printed : Refusal → List ℕ
-printed r = codes "refused " ++ (decimal (number_of r.reason) ++ (codes " at " ++ decimal r.at))

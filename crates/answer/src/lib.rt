@@ -2,7 +2,8 @@
 #![tactic(auto)]
 
 ghost use Rattle.std.specs.Prelude.{◌≡◌, Some};
-ghost use Rattle.answer.specs.Said.{number_of, printed};
+ghost use Rattle.answer.specs.Said.{number_of};
+ghost use Rattle.answer.specs.inner.Printed.{printed};
 
 use std::error::Error;
 use std::fmt;

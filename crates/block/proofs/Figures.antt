@@ -3,13 +3,14 @@ use Prim.Native.Nat.{ℕ, zero, suc, ◌+◌, ◌-◌, ◌*◌, ◌^◌, ◌≤�
 use native.Mathlib.Omega.{arith}
 use mathlib.Core.Path.{◌≡◌, refl, sym, ap, ◌∙◌}
 use mathlib.Core.List.{List, [], ◌∷◌}
-use lib.ListN.{length, get_or}
+use lib.ListN.{length, drop, get_or, length-drop}
+use lib.Seq.{drop-cons}
 use Rattle.answer.specs.Said.{Said}
 use Rattle.answer.specs.Order.{first}
 use Rattle.answer.proofs.Rows.{first_append}
 use Rattle.model.specs.Turns.{each_from}
 use Rattle.model.specs.declared.Figures.{Figures}
-use Rattle.block.specs.Layout.{flat, threes}
+use Rattle.block.specs.Layout.{listed, flat, threes}
 use Rattle.block.specs.Tests.{figure_rows, modes_rows}
 
 -- ---- the order of refusals
@@ -32,6 +33,36 @@ module _ (figures : ℕ → Figures) (at H : ℕ) where
   pub modes_end : (j modes : ℕ) (s : Said) → modes ≤ j → first (modes_rows at H (each_from figures j (modes - j))) s ≡ s
   unfolding modes_rows each_from
   modes_end j modes s p = let e : modes - j ≡ 0 = omega arith in ap (λ (k : ℕ). first (modes_rows at H (each_from figures j k)) s) e
+
+-- the same of figures that are lent, wherever a refusal names: the check needs it of place 0 alone
+threes_end : (xs : List ℕ) → length xs < 3 → threes xs ≡ []
+unfolding threes
+threes_end [] h = refl
+threes_end (a ∷ []) h = refl
+threes_end (a ∷ b ∷ []) h = refl
+threes_end (a ∷ b ∷ c ∷ xs) h = absurd (omega arith)
+
+module _ (lent : List ℕ) (at H : ℕ) where
+  threes_more : (from : ℕ) → 3 ≤ length lent - from
+      → threes (drop from lent) ≡ listed (get_or lent from 0) (get_or lent (from + 1) 0) (get_or lent (from + 2) 0) ∷ threes (drop (from + 3) lent)
+  unfolding threes
+  threes_more from h =
+      let one : suc from ≡ from + 1 = omega arith in
+      let two : suc (from + 1) ≡ from + 2 = omega arith in
+      let three : suc (from + 2) ≡ from + 3 = omega arith in
+      rw (drop-cons lent from 0 (omega arith), one, drop-cons lent (from + 1) 0 (omega arith), two, drop-cons lent (from + 2) 0 (omega arith), three)
+
+  pub lent_more : (from : ℕ) (s : Said) → 3 ≤ length lent - from
+      → first (modes_rows at H (threes (drop from lent))) s
+      ≡ first (figure_rows at H (listed (get_or lent from 0) (get_or lent (from + 1) 0) (get_or lent (from + 2) 0)))
+      (first (modes_rows at H (threes (drop (from + 3) lent))) s)
+  lent_more from s h =
+      ap (λ (fs : List Figures). first (modes_rows at H fs) s) (threes_more from h)
+      ∙ one_first at H (listed (get_or lent from 0) (get_or lent (from + 1) 0) (get_or lent (from + 2) 0)) (threes (drop (from + 3) lent)) s
+
+  pub lent_end : (from : ℕ) (s : Said) → length lent - from < 3 → first (modes_rows at H (threes (drop from lent))) s ≡ s
+  unfolding modes_rows
+  lent_end from s h = ap (λ (fs : List Figures). first (modes_rows at H fs) s) (threes_end (drop from lent) (rw length-drop h))
 
 -- ---- lent, three numbers for each mode
 pub threes_flat : (fs : List Figures) → threes (flat fs) ≡ fs

@@ -28,7 +28,8 @@ value_parts (suc a) b (c ∷ l) =
     let more : 256 ^ suc a * rest ≡ 256 * (256 ^ a * rest) = rw (pow-succ' 256 a) (mul_assoc 256 (256 ^ a) rest) in
     rw suc-add (omega (arith, value_parts a b l))
 
-number_parts : (a b at : ℕ) (s : List ℕ) → number (a + b) at s ≡ number a at s + 256 ^ a * number b (at + a) s
+-- and so of any number: its first byte and the rest, or its four bytes
+pub number_parts : (a b at : ℕ) (s : List ℕ) → number (a + b) at s ≡ number a at s + 256 ^ a * number b (at + a) s
 unfolding number
 number_parts a b at s = rw (← drop-drop a at s) (value_parts a b (drop at s))
 

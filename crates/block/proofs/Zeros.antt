@@ -1,12 +1,14 @@
 -- `zeros`: of the bits of many bytes together, as a run, and as a number. Assumes nothing.
-use Prim.Native.Nat.{ℕ, zero, suc, ◌+◌, ◌-◌, min}
+use Prim.Native.Nat.{ℕ, zero, suc, ◌+◌, ◌-◌, ◌≤◌, ◌<◌, min}
+use native.Mathlib.Numerals.{add-one}
 use native.Mathlib.Omega.{arith}
 use mathlib.Core.Path.{◌≡◌, refl, ap}
 use mathlib.Core.Bool.{true, ◌&&◌, and_assoc, and_comm}
 use mathlib.Core.List.{List, [], ◌∷◌}
 use lib.Bits.{bit_or, or_zero_l, or_add_and, and_le_l, and_le_r}
 use lib.Dec.{eqb}
-use lib.ListN.{length, take, drop, replicate, length-take}
+use lib.ListN.{length, get_or, take, drop, replicate, length-take, drop_of_length-le}
+use lib.Seq.{get_or-take}
 use borrow.Author.Tests.{eqb-true, ne_eqb}
 use Rattle.std.specs.List.{fold}
 use Rattle.std.proofs.lemmas.List.{drop-take, drop_min, take_min}
@@ -40,6 +42,29 @@ bits_zeros from to s =
     let e : start + (end - start) ≡ min to (length s) = omega arith in
     let n : start ≡ min from (length (take to s)) = rw length-take (omega arith) in
     rw (bits_zero, ← drop-take, e, take_min to s, n, drop_min from (take to s))
+
+-- the same one byte after the other, whatever the bits before it
+all_zero_more : (i : ℕ) (l : List ℕ) → all_zero (drop i l) ≡ (eqb (get_or l i 0) 0 && all_zero (drop (suc i) l))
+unfolding all_zero
+all_zero_more zero [] = refl
+all_zero_more zero (b ∷ l) = refl
+all_zero_more (suc i) [] = refl
+all_zero_more (suc i) (b ∷ l) = all_zero_more i l
+
+pub zeros_on : (seen from to : ℕ) (s : List ℕ) → from < to
+    → (eqb seen 0 && zeros from to s) ≡ (eqb (bit_or seen (get_or s from 0)) 0 && zeros (from + 1) to s)
+unfolding zeros
+zeros_on seen from to s h =
+    let more : all_zero (drop from (take to s)) ≡ (eqb (get_or s from 0) 0 && all_zero (drop (from + 1) (take to s))) =
+    rw (add-one, ← get_or-take to s from 0 h) (all_zero_more from (take to s)) in
+    rw (more, eqb_or, and_assoc)
+
+-- and none is left past the end
+pub zeros_end : (seen from to : ℕ) (s : List ℕ) → min to (length s) ≤ from → (eqb seen 0 && zeros from to s) ≡ eqb seen 0
+unfolding zeros all_zero
+zeros_end seen from to s h =
+    let l : length (take to s) ≤ from = rw length-take h in
+    rw (drop_of_length-le (take to s) l, and_comm)
 
 -- ---- zero bytes as a run
 pub all_zero_lem : (n : ℕ) → all_zero (replicate n 0) ≡ true

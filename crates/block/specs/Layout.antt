@@ -1,7 +1,5 @@
 -- Where each number of a block stands.
 use Rattle.std.specs.Prelude.{ℕ, ◌+◌, ◌*◌, Bool, not, ◌||◌, List, [], ◌∷◌}
-use Rattle.block.specs.declared.Header.{Header}
-use Rattle.block.specs.declared.Task.{Task}
 use Rattle.model.specs.declared.Figures.{Figures}
 use Rattle.block.specs.Bytes.{number, zeros}
 
@@ -25,10 +23,6 @@ cores_in block = number 2 4 block
 abbrev pub common_in : List ℕ → ℕ
 common_in block = number 4 8 block
 
--- together
-abbrev pub header_in : List ℕ → Header
-header_in block = record { tasks = tasks_in block; cores = cores_in block; common = common_in block }
-
 -- an unused byte isn't zero
 abbrev pub header_unused : List ℕ → Bool
 header_unused block = not (zeros 6 8 block) || not (zeros 12 508 block)
@@ -45,10 +39,6 @@ permitted_in block = number 2 4 block
 
 abbrev pub task_number_in : List ℕ → ℕ
 task_number_in block = number 2 6 block
-
--- those of its elasticity and of its modes, together
-abbrev pub task_in : List ℕ → Task
-task_in block = record { elasticity = elasticity_in block; modes = modes_in block; permitted = permitted_in block }
 
 -- an unused byte isn't zero: byte 3, or one behind the last mode
 abbrev pub task_unused : List ℕ → Bool

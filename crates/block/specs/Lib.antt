@@ -8,3 +8,5 @@ pub mod Layout
 pub mod Whole
 -- the tests of its numbers, the same for reading and for writing
 pub mod Tests
+-- its numbers as the code holds them: nothing here has to be believed
+pub mod inner

@@ -98,7 +98,7 @@ pub struct Header {
 }
 
 impl Header {
-    ghost use Rattle.block.specs.Layout.{header_in};
+    ghost use Rattle.block.specs.inner.Records.{header_in};
 
     // As they stand there, with no test.
     pub fn read(block: &[u8]) -> Header
@@ -137,7 +137,7 @@ pub struct Task {
 }
 
 impl Task {
-    ghost use Rattle.block.specs.Layout.{task_in};
+    ghost use Rattle.block.specs.inner.Records.{task_in};
 
     // As they stand there, with no test.
     pub fn read(block: &[u8]) -> Task

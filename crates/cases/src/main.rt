@@ -14,6 +14,7 @@
 // Every cell of a fresh workspace holds 77, and every byte of the output 170 before the call.
 #![tactic(auto)]
 
+use block::Number;
 use shunguleta::{
     Reply, shunguleta_ask_choice, shunguleta_ask_mode, shunguleta_ask_task, shunguleta_check,
     shunguleta_plan_whole, shunguleta_portion, shunguleta_take, shunguleta_write_header,
@@ -132,36 +133,40 @@ fn fetch<const N: usize>(file: &mut File) -> Result<[u8; N], Stop> {
     Ok(bytes)
 }
 
-// One reader for each width: a bound `Fn([u8; N]) -> T` for one generic reader gets no proof, and four impls of a trait are no plainer.
-fn fetch_byte(file: &mut File) -> Result<u8, Stop> {
-    Ok(u8::from_le_bytes(fetch(file)?))
+// A number of two bytes that counts something, or names a place.
+fn count_of(bytes: [u8; 2]) -> usize {
+    usize::from(u16::from_le_bytes(bytes))
 }
 
-fn fetch_count(file: &mut File) -> Result<usize, Stop> {
-    Ok(usize::from(u16::from_le_bytes(fetch(file)?)))
+// What differs is read at once, place and value, since a file has no buffer: a byte that differs from the base, and where. One reader for
+// each kind: a bound `Fn([u8; N]) -> T` for one generic reader gets no proof, and two impls of a trait are no plainer.
+fn fetch_byte(file: &mut File) -> Result<(usize, u8), Stop> {
+    let [p0, p1, byte] = fetch::<3>(file)?;
+    Ok((count_of([p0, p1]), byte))
 }
 
-fn fetch_number(file: &mut File) -> Result<u32, Stop> {
-    Ok(u32::from_le_bytes(fetch(file)?))
-}
-
-fn fetch_cell(file: &mut File) -> Result<u64, Stop> {
-    Ok(u64::from_le_bytes(fetch(file)?))
+// A cell that differs from the workspace, and where.
+fn fetch_cell(file: &mut File) -> Result<(usize, u64), Stop> {
+    let [p0, p1, b0, b1, b2, b3, b4, b5, b6, b7] = fetch::<10>(file)?;
+    Ok((
+        count_of([p0, p1]),
+        u64::from_le_bytes([b0, b1, b2, b3, b4, b5, b6, b7]),
+    ))
 }
 
 // What differs from the base or the workspace: so many times a place, and what stands there.
-fn patch<T: Copy, F: Fn(&mut File) -> Result<T, Stop>>(
+fn patch<T: Copy, F: Fn(&mut File) -> Result<(usize, T), Stop>>(
     file: &mut File,
     count: usize,
     places: &mut [T],
-    fetch_value: F,
+    fetch_entry: F,
 ) -> Result<(), Stop>
-    requires { F.IsAlwaysCallable fetch_value }
+    requires { F.IsAlwaysCallable fetch_entry }
 {
     for _ in 0..count {
-        let at = fetch_count(file)?;
+        let (at, value) = fetch_entry(file)?;
         let place = places.get_mut(at).ok_or(Stop::BadRecord)?;
-        *place = fetch_value(file)?;
+        *place = value;
     }
     Ok(())
 }
@@ -184,26 +189,28 @@ struct Head {
 }
 
 impl Head {
-    // What follows the kind.
+    // What follows the kind, read as one.
     fn fetch(file: &mut File, call: Call) -> Result<Head, Stop> {
+        let mut bytes = [0u8; 32];
+        fill(file, &mut bytes[1..], 31)?;
+        let count = |at| usize::from(u16::get(&bytes, at));
         Ok(Head {
             call,
-            workspace: Workspace::try_from(fetch_byte(file)?)?,
-            lent_bytes: fetch_count(file)?,
-            lent_cells: fetch_count(file)?,
-            lent_out: fetch_count(file)?,
+            workspace: Workspace::try_from(bytes[1])?,
+            lent_bytes: count(2),
+            lent_cells: count(4),
+            lent_out: count(6),
             numbers: [
-                fetch_number(file)?,
-                fetch_number(file)?,
-                fetch_number(file)?,
+                u32::get(&bytes, 8),
+                u32::get(&bytes, 12),
+                u32::get(&bytes, 16),
             ],
-            elasticity: fetch_byte(file)?,
-            modes: fetch_byte(file)?,
-            other_bytes: fetch_count(file)?,
-            other_cells: fetch_count(file)?,
-            figures: fetch_count(file)?,
-            // with the three bytes after them
-            letters: fetch::<4>(file)?[0],
+            elasticity: bytes[20],
+            modes: bytes[21],
+            other_bytes: count(22),
+            other_cells: count(24),
+            figures: count(26),
+            letters: bytes[28],
         })
     }
 }
@@ -310,19 +317,20 @@ fn show(
     println!(rt)
 }
 
-// What lasts from one record to the next.
+// What lasts from one record to the next, and the table of a call: a local one would be cleared for each record.
 #[derive(Drop)]
 struct Stored {
     file: File,
     base: [u8; TABLE],
+    table: [u8; TABLE],
     cells: [u64; CELLS],
 }
 
 impl Stored {
     // The base of the tables that follow: its bytes, and 0 past them.
     fn fetch_base(&mut self) -> Result<(), Stop> {
-        let length = fetch_count(&mut self.file)?;
-        self.base = [0; TABLE];
+        let length = count_of(fetch(&mut self.file)?);
+        self.base.fill(0);
         fill(&mut self.file, &mut self.base, length)?;
         Ok(())
     }
@@ -334,19 +342,21 @@ impl Stored {
         let mut letters = [0u8; NAME];
         let name = fill(file, &mut letters, usize::from(head.letters))?;
         if head.workspace == Workspace::Fresh {
-            self.cells = [77; CELLS];
+            self.cells.fill(77);
         }
-        let mut table = self.base;
-        patch(file, head.other_bytes, &mut table, fetch_byte)?;
+        self.table.copy_from_slice(&self.base);
+        patch(file, head.other_bytes, &mut self.table, fetch_byte)?;
         patch(file, head.other_cells, &mut self.cells, fetch_cell)?;
         let mut figures = [0u32; FIGURES];
         let figures = figures.get_mut(..head.figures).ok_or(Stop::BadRecord)?;
-        for figure in figures.iter_mut() {
-            *figure = fetch_number(file)?;
+        let mut listed = [0u8; 4 * FIGURES];
+        let (listed, _) = fill(file, &mut listed, 4 * figures.len())?.as_chunks::<4>();
+        for (figure, bytes) in figures.iter_mut().zip(listed) {
+            *figure = u32::from_le_bytes(*bytes);
         }
         let mut out = [170u8; OUT];
         let mut lent = Lent {
-            table: table.get(..head.lent_bytes).ok_or(Stop::BadRecord)?,
+            table: self.table.get(..head.lent_bytes).ok_or(Stop::BadRecord)?,
             cells: self
                 .cells
                 .get_mut(..head.lent_cells)
@@ -361,7 +371,7 @@ impl Stored {
 
     // The next record, by the kind that it begins with.
     fn record(&mut self, rt: &impl Print) -> Result<(), Stop> {
-        let kind = fetch_byte(&mut self.file).map_err(|_| Stop::NoRecord)?;
+        let [kind] = fetch::<1>(&mut self.file).map_err(|_| Stop::NoRecord)?;
         match Kind::try_from(kind)? {
             Kind::Base => self.fetch_base(),
             Kind::Call(call) => self.make(rt, call),
@@ -373,8 +383,10 @@ fn main(rt: HostRuntime) -> io::Result<()> {
     let mut stored = Stored {
         file: File::open(&rt, "calls")?,
         base: [0; TABLE],
-        cells: [77; CELLS],
+        table: [0; TABLE],
+        cells: [0; CELLS],
     };
+    stored.cells.fill(77);
     // more turns than a stored file has records
     for _ in 0..100000 {
         match stored.record(&rt) {

@@ -2,6 +2,7 @@
 -- Assumes nothing.
 use mathlib.Core.Path.{◌≡◌, sym, ap, ◌∙◌}
 use mathlib.Core.Logic.{◌⊎◌, inl, inr}
+use mathlib.Core.Bool.{true}
 use mathlib.Core.List.{List, [], ◌∷◌, map}
 use Prim.Native.Nat.{ℕ, zero, suc, ◌+◌, ◌-◌, ◌≤◌, ◌<◌, min}
 use native.Mathlib.Nat.{eq-or-lt_of_le, le_of_suc-le-suc}
@@ -13,6 +14,7 @@ use lib.Seq.{get_or-set_same, get_or-set_other}
 use Rattle.std.specs.Prelude.{Option, None, Some}
 use Rattle.std.specs.List.{fold}
 use Rattle.std.proofs.lemmas.Bool.{cases_lt}
+use Rattle.model.specs.Plan.{Choice}
 use Rattle.model.specs.Cells.{mark, ceiling, reads, plus, may, onward, offered, least}
 use Rattle.model.proofs.Sums.{within, reads_within, reads_above, reads_most, plus_within, plus_above, sound_le}
 use Rattle.model.proofs.Least.{least_sound}
@@ -77,19 +79,42 @@ reads_min a b = go (within a) (within b)
     go (inr h) (inr k) = omega (arith, reads_above a h, reads_above b k, reads_above (min a b) (omega arith))
 
 -- ---- what a mode offers
+-- one that may be chosen, of any need and cost: what `held` says of a `Mode`
+abbrev pub free : ℕ → ℕ → Choice
+free need cost = record { permitted = true; need = need; cost = cost }
+
+-- by the rule: a mode within the column, and one beyond it
+module _ (need cost : ℕ) (next : ℕ → ℕ) (c : ℕ) where
+  pub offered_in : need ≤ c → offered (free need cost) next c ≡ onward (free need cost) next c
+  unfolding may
+  offered_in h = simp (le-leb need c h)
+
+  pub offered_out : c < need → offered (free need cost) next c ≡ mark
+  unfolding may
+  offered_out h = simp (lt-leb need c h)
+
+-- as the sum reads, whatever the numbers of the row are: that of what counts past the ceiling is the mark
+module _ (need cost : ℕ) (row : List ℕ) (c : ℕ) where
+  pub offer_in : need ≤ c → reads (cost + get_or row (c - need) 0) ≡ offered (free need cost) (row_reads row) c
+  unfolding onward
+  offer_in h = sum_reads cost (get_or row (c - need) 0) ∙ sym (offered_in need cost (row_reads row) c h)
+
+  pub offer_out : c < need → reads (ceiling + 1) ≡ offered (free need cost) (row_reads row) c
+  offer_out h = reads_above (ceiling + 1) (omega arith) ∙ sym (offered_out need cost (row_reads row) c h)
+
 -- the lesser of the least so far and an offer
 unfoldable pub of_two : ℕ → Option ℕ → ℕ
 of_two best None = best
 of_two best (Some offer) = min best offer
 
 module _ (row : List ℕ) (c : ℕ) where
-  pub offer_in : (o : Mode) → o.need ≤ c → offer_of row c o ≡ Some (o.cost + get_or row (c - o.need) 0)
+  pub offer_some : (o : Mode) → o.need ≤ c → offer_of row c o ≡ Some (o.cost + get_or row (c - o.need) 0)
   unfolding offer_of
-  offer_in o h = simp (le-ltb c o.need h)
+  offer_some o h = simp (le-ltb c o.need h)
 
-  pub offer_out : (o : Mode) → c < o.need → offer_of row c o ≡ None
+  pub offer_none : (o : Mode) → c < o.need → offer_of row c o ≡ None
   unfolding offer_of
-  offer_out o h = simp (lt-ltb c o.need h)
+  offer_none o h = simp (lt-ltb c o.need h)
 
   -- the least so far of what they offer
   abbrev pub lesser : ℕ → Mode → ℕ
@@ -103,9 +128,9 @@ module _ (row : List ℕ) (c : ℕ) where
       none = omega (arith, reads_most best)
 
       go : (c < o.need) ⊎ (o.need ≤ c) → reads (lesser best o) ≡ min (reads best) (offered (held o) (row_reads row) c)
-      go (inl h) = rw (offer_out o h, lt-leb o.need c h) none
+      go (inl h) = rw (offer_none o h, lt-leb o.need c h) none
       go (inr h) =
-          rw (offer_in o h, le-leb o.need c h)
+          rw (offer_some o h, le-leb o.need c h)
           (reads_min best (o.cost + get_or row (c - o.need) 0) ∙ ap (min (reads best)) (sum_reads o.cost (get_or row (c - o.need) 0)))
 
   fold_reads : (os : List Mode) (best : ℕ) → reads (fold lesser best os) ≡ min (reads best) (least (map held os) (row_reads row) c)

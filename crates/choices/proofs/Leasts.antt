@@ -15,14 +15,14 @@ use Rattle.choices.specs.Tasks.{cores_at, choice_of, task_of}
 use Rattle.choices.specs.inner.Modes.{need_at, AllMeet}
 use Rattle.choices.proofs.Loads.{Meets}
 
-need_most : (t : Task) → least_need t ≤ mark
+pub need_most : (t : Task) → least_need t ≤ mark
 unfolding least_need
 need_most [] = omega arith
 need_most (o ∷ os) = omega (arith, need_most os)
 
 module _ (H : ℕ) (t : TaskNumbers) where
   -- the need held for a mode that meets its period is what it counts for
-  own : (j : ℕ) → Meets t j → need_at t j ≡ cond (allows t.permitted j) (cores_at t j) mark
+  pub own : (j : ℕ) → Meets t j → need_at t j ≡ cond (allows t.permitted j) (cores_at t j) mark
   own j m = go (allows t.permitted j) refl
     where
       go : (b : Bool) → allows t.permitted j ≡ b → need_at t j ≡ cond (allows t.permitted j) (cores_at t j) mark
@@ -33,7 +33,7 @@ module _ (H : ℕ) (t : TaskNumbers) where
   abbrev pub lesser : ℕ → ℕ → ℕ
   lesser least j = min least (need_at t j)
 
-  fold_left : (left j least : ℕ) → least ≤ mark → ((k : ℕ) → k < j + left → Meets t k)
+  pub fold_left : (left j least : ℕ) → least ≤ mark → ((k : ℕ) → k < j + left → Meets t k)
       → fold lesser least (range_with_len j left) ≡ min least (least_need (each_from (choice_of H t) j left))
   unfolding least_need each_from
   fold_left zero j least h m = omega arith

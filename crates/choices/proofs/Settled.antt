@@ -1,5 +1,5 @@
 -- Each public promise settles its outcome: at most one is allowed, and of asking at least one. Assumes nothing.
-use Prim.Native.Nat.{ℕ}
+use Prim.Native.Nat.{ℕ, ◌^◌, ◌<◌}
 use native.Mathlib.Omega.{arith}
 use mathlib.Core.Path.{◌≡◌, ◌∙◌, sym, ap, refl}
 use mathlib.Core.List.{List}
@@ -7,7 +7,7 @@ use Rattle.answer.specs.One.{One, AtLeastOne}
 use Rattle.std.specs.Prelude.{Result, Ok}
 use mathlib.Core.Bool.{Bool, true, false, cond}
 use lib.Dec.{eqb}
-use Rattle.answer.specs.Said.{choice, said_of}
+use Rattle.answer.specs.Said.{Said, choice, said_of}
 use Rattle.answer.specs.declared.Refusal.{Refusal}
 use Rattle.answer.proofs.Rows.{numbers}
 use Rattle.answer.proofs.Settled.{said_one}
@@ -60,22 +60,28 @@ choice_same x y e =
     ∙ ap (λ s. record { permitted = eqb (numbers s).0 1; cores = (numbers s).1; cost = (numbers s).2 }) e
     ∙ ap (λ b. record { permitted = b; cores = y.cores; cost = y.cost }) (bit_back y.permitted)
 
+pub one_answer : {s : Said} (x y : Result Choice Refusal) → said_of the_choice x ≡ s → said_of the_choice y ≡ s → x ≡ y
+one_answer x y p q = said_one the_choice choice_same (λ o z. omega (arith, z)) x y (p ∙ sym q)
+
 pub ask_choice_one : One ask_choice_kinds.ps ask_choice_kinds.r ask_choice_reads.Post
-ask_choice_one κs a x y s t p q = (said_one the_choice choice_same (λ o z. omega (arith, z)) x y (p ∙ sym q), refl)
+ask_choice_one κs a x y s t p q = (one_answer x y p q, refl)
 
 -- ---- at least one
+abbrev pub HeldChoice : Result Choice Refusal → Type 0
+HeldChoice = Held choices.the_row choice_laws.the_row_laws choice_laws.the_told
+
+pub some_choice : (p : Bool) (k v : ℕ) → k < 2 ^ 32 → v < 2 ^ 64 → (x : Result Choice Refusal) × HeldChoice x × (said_of the_choice x ≡ choice p k v)
+some_choice p k v h g =
+    (Ok (record { permitted = p; cores = k; cost = v }), (_, (refl, (_, (refl, ((_, (refl, (refl, ((refl, h), ((refl, g), tt))))), tt))))), refl)
+
 some_asked : (bytes : List ℕ) → Bytes bytes → (i j : ℕ)
-    → (x : Result Choice Refusal) × Held choices.the_row choice_laws.the_row_laws choice_laws.the_told x × (said_of the_choice x ≡ ask_choice_said bytes i j)
+    → (x : Result Choice Refusal) × HeldChoice x × (said_of the_choice x ≡ ask_choice_said bytes i j)
 some_asked bytes b i j =
     let c = choice_of (numbers_in bytes).common ((numbers_in bytes).task i) j in
     some_answer choices.the_row choice_laws.the_row_laws choice_laws.the_told the_choice (ask_mode_rows bytes i j) (choice c.permitted c.need c.cost)
     (each_ask_mode Fits bytes (front_fits bytes b) (task_fits bytes b) (refl, omega arith) i j)
     (λ none.
-    let a = asked bytes i j b none in (
-      Ok (record { permitted = c.permitted; cores = c.need; cost = c.cost }),
-      (_, (refl, (_, (refl, ((_, (refl, (refl, ((refl, cores_fit a), ((refl, cost_fit a), tt))))), tt))))),
-      refl,
-    ))
+    let a = asked bytes i j b none in some_choice c.permitted c.need c.cost (cores_fit a) (cost_fit a))
 
 pub ask_choice_some : AtLeastOne ask_choice_kinds.ps ask_choice_kinds.r (λ κs a. Bytes a.0.now) ask_choice_reads.Post
 ask_choice_some κs a b =

@@ -3,7 +3,7 @@ use mathlib.Core.Path.{◌≡◌, refl, ap, ◌∙◌, sym}
 use mathlib.Core.List.{List, [], ◌∷◌, ◌++◌}
 use mathlib.Core.Logic.{◌⊎◌, inl, inr}
 use Prim.Native.Nat.{ℕ, zero, suc, ◌+◌, ◌-◌, ◌≤◌, ◌<◌}
-use native.Mathlib.Nat.{add-zero, zero-add, suc-add, sub_self}
+use native.Mathlib.Nat.{add-zero, zero-add, suc-add, sub_self, le_antisymm}
 use native.Mathlib.Omega.{arith}
 use lib.ListN.{length, get_or, set, drop, length-set, length-append}
 use lib.Seq.{get_or-set_other, set_at, append_snoc}
@@ -35,7 +35,7 @@ module _ (rule : Rule) where
   fill_outside ws p (suc k) q d (inr h) =
       fill_outside (set ws p (rule ws p)) (suc p) k q d (inr (omega arith)) ∙ get_or-set_other ws p q (rule ws p) d (omega arith)
 
-  -- ---- a loop that fills from `from` on: before its first turn, and a turn that fills up to q
+  -- ---- a loop that fills from `from` on: before its first turn, a turn that fills up to q, and after its last, wherever it began
   pub fill_none : (ws : List ℕ) (p : ℕ) → ws ≡ fill rule ws p (p - p)
   unfolding fill
   fill_none ws p = rw (sub_self p)
@@ -46,6 +46,9 @@ module _ (rule : Rule) where
       let s : from + (p - from) ≡ p = omega arith in
       let t : q - from ≡ (p - from) + (q - p) = omega arith in
       rw (f, e, t, fill_add ws from (p - from) (q - p), s)
+
+  pub fill_done : (ws cells : List ℕ) (from to p : ℕ) → p ≤ to → to ≤ p → cells ≡ fill rule ws from (p - from) → cells ≡ fill rule ws from (to - from)
+  fill_done ws cells from to p h k e = e ∙ ap (λ (q : ℕ). fill rule ws from (q - from)) (le_antisymm h k)
 
   -- ---- a run, as the cells before it, its values, and the cells after it: they may look at the cells before it, and at no others
   pub fill_parts : (f : ℕ → ℕ) (before rest : List ℕ) (p c k : ℕ) → length before ≡ p → k ≤ length rest
@@ -85,3 +88,10 @@ module _ (rule : Rule) where
         portions_fill (portion rule W ws p b) q bs (omega arith)
         ∙ sym (ap (fill rule ws p) s ∙ fill_add ws p (q - p) (progress_after W q bs - q)
         ∙ ap (λ (x : ℕ). fill rule (fill rule ws p (q - p)) x (progress_after W q bs - q)) e)
+
+-- two rules that agree on the cells of a run fill it alike: what joins the laws of single cells (`rule_last`, `rule_task`) to whole runs
+pub fill_same : (f g : Rule) (ws : List ℕ) (p k : ℕ) → ((l : List ℕ) (q : ℕ) → p ≤ q → q < p + k → f l q ≡ g l q) → fill f ws p k ≡ fill g ws p k
+unfolding fill
+fill_same f g ws p zero h = refl
+fill_same f g ws p (suc k) h =
+    rw (h ws p (omega arith) (omega arith)) (fill_same f g (set ws p (g ws p)) (suc p) k (λ l q a b. h l q (omega arith) (omega arith)))

@@ -1,6 +1,8 @@
 // Reads a table from standard input and prints its plan, or the refusal. No rule of its own.
 #![tactic(auto)]
 
+ghost use Rattle.std.specs.Prelude.{◌≤◌, length};
+
 use answer::{Reason, Refusal};
 use choices::ask_choice;
 use model::{MOST_CELLS, MOST_TASKS};
@@ -49,7 +51,9 @@ fn answer(rt: &impl Print, table: &[u8]) -> io::Result<()> {
 
 // Reads until the room is full, the input ends or a read fails; the bytes that were read. They are counted by hand, since `read_exact`
 // and `read_to_end` keep none of them where a read fails, or want a heap.
-fn read_full<'a>(input: &mut impl Read, room: &'a mut [u8]) -> &'a [u8] {
+fn read_full<'a>(input: &mut impl Read, room: &'a mut [u8]) -> &'a [u8]
+    ensures { length result.now ≤ length room.old }
+{
     let mut done = 0;
     while let Ok(count @ 1..) = input.read(&mut room[done..]) {
         done += count;

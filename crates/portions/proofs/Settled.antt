@@ -1,6 +1,6 @@
 -- Each public promise settles its outcome: the answer, and every cell of the lent workspace. At most one is allowed, and of a portion at
 -- least one. Assumes nothing.
-use Prim.Native.Nat.{ℕ, ◌-◌}
+use Prim.Native.Nat.{ℕ, ◌-◌, ◌^◌, ◌<◌}
 use native.Mathlib.Omega.{arith}
 use mathlib.Core.List.{List}
 use denote.Builtin.{u32}
@@ -53,8 +53,11 @@ progress_laws = of_field u32-field u32-laws refl (copy_shared u32-field u32-copy
 abbrev progress_told : Told u32
 progress_told = field_told u32-field u32-laws
 
-abbrev HeldFilling : Filling → Type 0
+abbrev pub HeldFilling : Filling → Type 0
 HeldFilling = Held u32 progress_laws progress_told
+
+pub some_filled : (p : ℕ) → p < 2 ^ 32 → (x : Filling) × HeldFilling x × (said x ≡ filled p)
+some_filled p h = (Ok p, (_, (refl, (_, (refl, ((refl, h), tt))))), refl)
 
 module _ (bytes cells : List ℕ) (p b : ℕ) (is : Bytes bytes) where
   abbrev after : List ℕ
@@ -67,11 +70,8 @@ module _ (bytes cells : List ℕ) (p b : ℕ) (is : Bytes bytes) where
       (each_portion Fits bytes (front_fits bytes is) (task_fits bytes is) (fits_front own_numbers tt) (length cells) p)
       (some_refusal u32 progress_laws progress_told filled)
       (λ none.
-      let table = (none_append (table_rows bytes) (own_rows (cells_of_table bytes) (length cells) p) none).0 in (
-        Ok (advance (cells_of_table bytes) p b),
-        (_, (refl, (_, (refl, ((refl, omega (arith, cells_most bytes (lawful bytes is table))), tt))))),
-        refl,
-      ))
+      let table = (none_append (table_rows bytes) (own_rows (cells_of_table bytes) (length cells) p) none).0 in
+      some_filled (advance (cells_of_table bytes) p b) (omega (arith, cells_most bytes (lawful bytes is table))))
 
 pub portion_some : AtLeastOne portion_kinds.ps portion_kinds.r (λ κs a. Bytes a.0.now) portion_reads.Post
 portion_some κs (table, (cells, (p, (b, rest)))) is =

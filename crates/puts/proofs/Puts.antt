@@ -5,13 +5,18 @@ use native.Mathlib.Numerals.{add-one}
 use native.Mathlib.Omega.{arith}
 use mathlib.Core.Path.{◌≡◌, refl, ap, ap₂, sym, ◌∙◌}
 use mathlib.Core.List.{List, [], ◌∷◌, ◌++◌, append_assoc, append-nil}
-use lib.ListN.{length, take, drop, get_or, replicate, length-append, length-take, length-drop, take-append-drop}
-use lib.Seq.{take_at, drop_at, drop-drop}
+use lib.ListN.{length, take, drop, get_or, set, replicate, length-append, length-take, length-drop, length-replicate, replicate-append-replicate, take-append-drop}
+use lib.Seq.{take_at, drop_at, drop-drop, sets, sets-eq}
 use borrow.Rule.Slice.PartMut.{put_mid}
 use Rattle.std.specs.Int.{bytes_low_first, byte_at}
 use Rattle.block.specs.Bytes.{as_bytes, laid}
 use Rattle.block.proofs.Laid.{Fit, total, length_bytes}
 use Rattle.puts.specs.inner.Puts.{over}
+
+-- numbers stored one after the other are a put
+pub stored : (d : List ℕ) (at : ℕ) (vs : List ℕ) → at + length vs ≤ length d → sets d at vs ≡ over d at vs
+unfolding over
+stored d at vs h = sets-eq vs d at h
 
 pub length_over : (d : List ℕ) (at : ℕ) (vs : List ℕ) → at + length vs ≤ length d → length (over d at vs) ≡ length d
 unfolding over
@@ -30,6 +35,17 @@ over_over d at vs us n h e =
     let far : drop (n + length us) ((take at d ++ vs) ++ drop (at + length vs) d) ≡ drop (at + length (vs ++ us)) d =
     rw (← drop-drop (length us) n, drop_at (take at d ++ vs) _ n l, drop-drop, length-append, add_assoc) in
     rw (front, far, append_assoc (take at d) vs us)
+
+-- one more zero byte behind those put: of any offsets, where `clear` ends at the check
+pub zero_more : (d : List ℕ) (from i : ℕ) → from ≤ i → i < length d → set (over d from (replicate (i - from) 0)) i 0 ≡ over d from (replicate (i + 1 - from) 0)
+zero_more d from i h k =
+    let n : i + 1 - from ≡ i - from + 1 = omega arith in
+    let e : from + length {A = ℕ} (replicate (i - from) 0) ≡ i = rw length-replicate (omega arith) in
+    let l : length (over d from (replicate (i - from) 0)) ≡ length d = length_over d from _ (omega arith) in
+    rw n
+    (stored (over d from (replicate (i - from) 0)) i (0 ∷ []) (omega arith)
+    ∙ over_over d from (replicate (i - from) 0) (0 ∷ []) i (omega arith) e
+    ∙ ap (over d from) (replicate-append-replicate (i - from) 1 0))
 
 -- the bytes of a number as the library has them
 le_bytes : (i w x : ℕ) → bytes_low_first i w x ≡ as_bytes w (x / 256 ^ i)
@@ -75,7 +91,7 @@ words_more i [] h = absurd (omega arith)
 words_more zero (x ∷ xs) h = append-nil (as_bytes 4 x)
 words_more (suc i) (x ∷ xs) h = rw (words_more i xs (omega arith), append_assoc)
 
-length_words : (i : ℕ) (xs : List ℕ) → i ≤ length xs → length (laid (replicate i 4) (take i xs)) ≡ 4 * i
+pub length_words : (i : ℕ) (xs : List ℕ) → i ≤ length xs → length (laid (replicate i 4) (take i xs)) ≡ 4 * i
 unfolding laid
 length_words zero xs h = refl
 length_words (suc i) [] h = absurd (omega arith)

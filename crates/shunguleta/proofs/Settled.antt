@@ -1,5 +1,11 @@
 -- Each reply is settled, with all that the call leaves behind: the call's own promise settles its answer. Assumes nothing.
 use Prim.Native.Nat.{ℕ}
+use contract.Lifetimes.{Lfts}
+use denote.RattleType.{RattleType}
+use denote.Param.Laws.{Laws}
+use denote.Triple.Clauses.{Lasts, at_exit}
+use borrow.Fn.Kinds.{Dens, ended_of}
+use mir.Syntax.{Dict}
 use mathlib.Core.List.{List}
 use mathlib.Core.Path.{◌≡◌, sym, ap, ◌∙◌}
 use Rattle.answer.proofs.Outcomes.{outcome_one}
@@ -19,6 +25,9 @@ use Rattle.portions.specs.Said.{said as filling_said}
 use Rattle.taking.specs.Said.{said as taken_said}
 use Rattle.shunguleta.specs.declared.Reply.{Reply}
 use Rattle.shunguleta.specs.Reply.{reply_of, Replied}
+use Rattle.shunguleta.specs.declared.Given as given
+use Rattle.shunguleta.proofs.ReplyFromResultRefusal.from.Kinds as from_kinds
+use Rattle.shunguleta.proofs.ReplyFromResultRefusal.from.Reads as from_reads
 use Rattle.shunguleta.proofs.shunguleta_check.Kinds as check_kinds
 use Rattle.shunguleta.proofs.shunguleta_check.Reads as check_reads
 use Rattle.shunguleta.proofs.shunguleta_ask_task.Kinds as ask_task_kinds
@@ -75,3 +84,11 @@ write_task_one κs a x y s t =
 
 pub plan_whole_one : One plan_whole_kinds.ps plan_whole_kinds.r plan_whole_reads.Post
 plan_whole_one κs a x y s t = settled taken_said (λ b c. whole_settled.plan_whole_one κs a b c s t)
+
+-- the reply to an answer, whatever it is that a call gives; what is left behind references in that is its giver's promise
+pub from_one : (T : RattleType) (L : Laws T) (says : given.Ghosts T.Denot) (methods : Dict) (κs : Lfts 1) (a : Dens κs (from_kinds.ps T L))
+    → (x y : Reply) (s t : Lasts (ended_of 1 (from_kinds.ps T L) (from_kinds.r T L)) κs a)
+    → from_reads.Post T L says methods κs a x (at_exit (ended_of 1 (from_kinds.ps T L) (from_kinds.r T L)) κs a s)
+    → from_reads.Post T L says methods κs a y (at_exit (ended_of 1 (from_kinds.ps T L) (from_kinds.r T L)) κs a t)
+    → x ≡ y
+from_one T L says methods κs a x y s t p q = p ∙ sym q

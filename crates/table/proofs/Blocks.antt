@@ -10,6 +10,12 @@ use Rattle.block.proofs.Laid.{bytes_take, bytes_drop}
 use Rattle.table.specs.Order.{block_at}
 
 module _ (s : List ℕ) (start : ℕ) where
+  -- nothing is left: the check finds this case without it
+  pub block_none : length s ≤ start → take (length s - length s) (drop (length s) s) ≡ take 512 (drop start s)
+  block_none h =
+      let l : length s ≤ length s = omega arith in
+      rw (drop_of_length-le s l, drop_of_length-le s h, take-nil, take-nil)
+
   -- at most 512 are left
   pub block_rest : length s - start ≤ 512 → take (length s - start) (drop start s) ≡ take 512 (drop start s)
   block_rest h =

@@ -22,7 +22,8 @@ use Rattle.block.proofs.Header.TheLaws as header_laws
 use Rattle.block.specs.contracts.Task as task
 use Rattle.block.proofs.Task.TheLaws as task_laws
 use Rattle.block.specs.Bytes.{Bytes, number}
-use Rattle.block.specs.Layout.{header_in, task_in, figures_in}
+use Rattle.block.specs.Layout.{figures_in}
+use Rattle.block.specs.inner.Records.{header_in, task_in}
 use Rattle.block.proofs.Laid.{number_small}
 use Rattle.table.specs.Said.{the_header, the_task}
 use Rattle.table.specs.Order.{block_at, header_block, task_block, header_said, task_said, figures_said, table_rows, ask_task_rows, ask_mode_rows, table_said, ask_task_said, ask_mode_said}
@@ -71,6 +72,19 @@ ask_task_one κs a x y s t p q = (said_one the_task task_same (λ h z. omega (ar
 pub ask_mode_one : One ask_mode_kinds.ps ask_mode_kinds.r ask_mode_reads.Post
 ask_mode_one κs a x y s t p q = (said_one figures_said figures_same (λ f z. omega (arith, z)) x y (p ∙ sym q), refl)
 
+-- ---- an answer that its type can hold
+pub held_header : (n m H : ℕ) → n < 2 ^ 16 → m < 2 ^ 16 → H < 2 ^ 32
+    → Held header.the_row header_laws.the_row_laws header_laws.the_told (Ok (record { tasks = n; cores = m; common = H }))
+held_header n m H x y z = (_, (refl, (_, (refl, ((_, (refl, ((refl, x), ((refl, y), ((refl, z), tt))))), tt)))))
+
+pub held_task_lem : (E modes permitted : ℕ) → E < 2 ^ 8 → modes < 2 ^ 8 → permitted < 2 ^ 16
+    → Held task.the_row task_laws.the_row_laws task_laws.the_told (Ok (record { elasticity = E; modes = modes; permitted = permitted }))
+held_task_lem E modes permitted x y z = (_, (refl, (_, (refl, ((_, (refl, ((refl, x), ((refl, y), ((refl, z), tt))))), tt)))))
+
+pub held_figures : (C L P : ℕ) → C < 2 ^ 32 → L < 2 ^ 32 → P < 2 ^ 32
+    → Held figures.the_row figures_laws.the_row_laws figures_laws.the_told (Ok (record { work = C; span = L; period = P }))
+held_figures C L P x y z = (_, (refl, (_, (refl, ((_, (refl, ((refl, x), ((refl, y), ((refl, z), tt))))), tt)))))
+
 -- ---- at least one
 module _ (bytes : List ℕ) (b : Bytes bytes) where
   -- a number of w bytes fits them
@@ -83,7 +97,7 @@ module _ (bytes : List ℕ) (b : Bytes bytes) where
       (each_table Fits bytes (front_fits bytes b) (task_fits bytes b))
       (λ none. (
         Ok (header_in (header_block bytes)),
-        (_, (refl, (_, (refl, ((_, (refl, ((refl, fits 2 2 0), ((refl, fits 2 4 0), ((refl, fits 4 8 0), tt))))), tt))))),
+        held_header _ _ _ (fits 2 2 0) (fits 2 4 0) (fits 4 8 0),
         refl,
       ))
 
@@ -93,7 +107,7 @@ module _ (bytes : List ℕ) (b : Bytes bytes) where
       (each_ask_task Fits bytes (front_fits bytes b) (task_fits bytes b) (refl, omega arith) i)
       (λ none. (
         Ok (task_in (task_block bytes i)),
-        (_, (refl, (_, (refl, ((_, (refl, ((refl, fits 1 1 (i + 1)), ((refl, fits 1 2 (i + 1)), ((refl, fits 2 4 (i + 1)), tt))))), tt))))),
+        held_task_lem _ _ _ (fits 1 1 (i + 1)) (fits 1 2 (i + 1)) (fits 2 4 (i + 1)),
         refl,
       ))
 
@@ -105,13 +119,7 @@ module _ (bytes : List ℕ) (b : Bytes bytes) where
       (each_ask_mode Fits bytes (front_fits bytes b) (task_fits bytes b) (refl, omega arith) i j)
       (λ none. (
         Ok (figures_in (task_block bytes i) j),
-        (
-          _,
-          (
-            refl,
-            (_, (refl, ((_, (refl, ((refl, fits 4 (8 + 12 * j) (i + 1)), ((refl, fits 4 (12 + 12 * j) (i + 1)), ((refl, fits 4 (16 + 12 * j) (i + 1)), tt))))), tt))),
-          ),
-        ),
+        held_figures _ _ _ (fits 4 (8 + 12 * j) (i + 1)) (fits 4 (12 + 12 * j) (i + 1)) (fits 4 (16 + 12 * j) (i + 1)),
         refl,
       ))
 

@@ -15,8 +15,9 @@ use Rattle.std.specs.Result.{IsErr, IsErrAnd}
 use Rattle.answer.specs.Said.{Said, refused, plan, number_of}
 use Rattle.answer.specs.declared.Refusal.{Refusal}
 use Rattle.answer.specs.Order.{Row, row, first, afterwards, Outcome}
-use Rattle.answer.proofs.Elses.{left_as_it_was}
-use Rattle.answer.proofs.Outcomes.{goes, joined, behind, given}
+use Rattle.answer.proofs.Rows.{kind}
+use Rattle.answer.proofs.Elses.{as_it_was}
+use Rattle.answer.proofs.Outcomes.{goes, joined, behind, given, stops}
 use Rattle.model.specs.Cells.{mark}
 use Rattle.model.specs.Taking.{used, trace, all_keep, take_rows, take_modes}
 use Rattle.model.proofs.Taking.{used_cong}
@@ -63,15 +64,19 @@ module _ (bytes cells : List ℕ) (p : ℕ) (before : List ℕ) where
   abbrev pub From : Said → List ℕ → Type 0
   From s e = Outcome Own Rest before After s e
 
-  -- the table or what is lent is refused, and so is taking, for the same reason
-  pub turned_away : (r : Refusal) (x : Taken) → IsErr x × IsErrAnd x (λ e. e ≡ r)
-      → Says bytes (length cells) (length before) (refused (number_of r.reason) r.at) → Ends (said x) before
+  -- the table or what is lent is refused, and so is taking, for the same reason: whatever is said of them that is no header, and so a
+  -- refusal that `?` passes up
+  pub turned_away : {s : Said} → (kind s ≡ 1 → ⊥) → Says bytes (length cells) (length before) s → Ends s before
   unfolding taking_rows
-  turned_away r x p q =
+  turned_away other q =
       let further = Progress ++ Own in
       joined Room further Rest before After
-      (left_as_it_was the_plan Room r x (header_said (header_block bytes)) (first further Rest) before (afterwards further before After)
-      (λ z. omega (arith, z)) p q)
+      (stops Room (header_said (header_block bytes)) (first further Rest) before (afterwards further before After) other q)
+
+  pub sent_up : (r : Refusal) (x : Taken) → IsErr x × IsErrAnd x (λ e. e ≡ r)
+      → Says bytes (length cells) (length before) (refused (number_of r.reason) r.at) → Ends (said x) before
+  sent_up r x p q =
+      let e = as_it_was the_plan r x p in turned_away (λ z. omega (arith, ap kind e, z)) (e ∙ q)
 
   module _ {n m H : ℕ} (l : Lent bytes (length cells) (length before) n m H) where
     -- both are accepted

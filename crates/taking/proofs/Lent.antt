@@ -1,7 +1,7 @@
 -- The tests of the table and of what is lent: what each way out says, and what holds past them. Assumes nothing.
 use Prim.Native.Nat.{ℕ, ◌≤◌, ◌<◌}
 use native.Mathlib.Omega.{arith}
-use mathlib.Core.Path.{◌≡◌, sym, ◌∙◌}
+use mathlib.Core.Path.{◌≡◌, sym, ap, ◌∙◌}
 use mathlib.Core.List.{List, [], ◌∷◌}
 use borrow.Author.Tests.{lt-ltb, le-ltb, ltb-false}
 use lib.Dec.{ltb}
@@ -10,8 +10,8 @@ use Rattle.std.specs.Result.{IsErr, IsErrAnd}
 use Rattle.answer.specs.Said.{Said, refused, header, number_of, said_of}
 use Rattle.answer.specs.declared.Refusal.{Refusal}
 use Rattle.answer.specs.Order.{Row, row, first, NoneGiven}
-use Rattle.answer.proofs.Rows.{first_append, append_none, none_append, none_first}
-use Rattle.answer.proofs.Elses.{passed, answered, passed_up}
+use Rattle.answer.proofs.Rows.{kind, stop, first_append, append_none, none_append, none_first}
+use Rattle.answer.proofs.Elses.{passed, answered, as_it_was}
 use Rattle.block.specs.Bytes.{Bytes}
 use Rattle.block.specs.declared.Header.{Header}
 use Rattle.table.specs.Said.{the_header}
@@ -37,9 +37,14 @@ module _ (bytes : List ℕ) (cells out : ℕ) where
   unfolding lent_rows
   then_own e = e ∙ sym (first_append (table_rows bytes) own front)
 
-  pub turned_away : (r : Refusal) (x : Result Header Refusal) → IsErr x × IsErrAnd x (λ e. e ≡ r)
+  -- whatever is no header and is said of the table is said of the call; so is a refusal that `?` passes up
+  pub turned_away : {s : Said} → (kind s ≡ 1 → ⊥) → s ≡ table_said bytes → Says s
+  turned_away other q = then_own (stop (table_rows bytes) front (first own front) other q)
+
+  pub sent_up : (r : Refusal) (x : Result Header Refusal) → IsErr x × IsErrAnd x (λ e. e ≡ r)
       → refused (number_of r.reason) r.at ≡ table_said bytes → Says (said_of the_header x)
-  turned_away r x p q = then_own (passed_up the_header (table_rows bytes) r x front (first own front) (λ z. omega (arith, z)) p q)
+  sent_up r x p q =
+      let e = as_it_was the_header r x p in turned_away (λ z. omega (arith, ap kind e, z)) (e ∙ q)
 
   module _ (none : NoneGiven (table_rows bytes)) where
     past : {s : Said} → s ≡ first own front → Says s

@@ -28,7 +28,7 @@ use Rattle.arrayvec.specs.ArrayVec.{ArrayVec}
 use Rattle.taking.specs.Take.{cell_of}
 use Rattle.taking.specs.inner.Traces.{TracedFrom}
 use Rattle.model.proofs.Taking.{trace_length}
-use Rattle.taking.proofs.Searches.{first_past, trace_more, keep_more}
+use Rattle.taking.proofs.Searches.{first_on, trace_more, keep_more}
 
 -- the row that starts at a number: its cells up to column m
 abbrev pub row_of : List ℕ → ℕ → ℕ → List ℕ
@@ -178,7 +178,7 @@ module _ {bytes cells : List ℕ} {n m H used : ℕ} {modes : List ℕ} {i colum
 
           -- it does not keep it: the next mode
           pub next_mode : Keeps (held o) ≡ false → j + 1 ≤ low
-          next_mode e = first_past Keeps (map held own) j in_held passed (ap Keeps at_hand ∙ e)
+          next_mode e = first_on Keeps (map held own) j in_held passed (ap Keeps at_hand ∙ e)
 
           -- it keeps it: the next task
           module _ (kept : Keeps (held o) ≡ true) where

@@ -1,7 +1,7 @@
 -- Planning in one call: the outcome at each way out, from the tests that lead there. Assumes nothing.
 use Prim.Native.Nat.{ℕ, ◌<◌}
 use native.Mathlib.Omega.{arith}
-use mathlib.Core.Path.{◌≡◌, refl}
+use mathlib.Core.Path.{◌≡◌, refl, ap, ◌∙◌}
 use mathlib.Core.Logic.{◌⊎◌, inl, inr}
 use mathlib.Core.Bool.{true, false}
 use mathlib.Core.List.{List}
@@ -12,7 +12,8 @@ use Rattle.std.specs.Result.{IsErr, IsErrAnd}
 use Rattle.answer.specs.Said.{refused, number_of}
 use Rattle.answer.specs.declared.Refusal.{Refusal}
 use Rattle.answer.specs.Order.{NoneGiven}
-use Rattle.answer.proofs.Elses.{passed_up}
+use Rattle.answer.proofs.Rows.{kind, stop}
+use Rattle.answer.proofs.Elses.{as_it_was}
 use Rattle.model.specs.Cells.{mark}
 use Rattle.model.specs.Workspace.{fill}
 use Rattle.model.specs.inner.Fitting.{least_cores}
@@ -29,16 +30,19 @@ use Rattle.whole.specs.Whole.{PlanGiven, NoPlanFits, PlannedWhole}
 use Rattle.whole.proofs.Filled.{all_hold, taken}
 
 module _ (bytes cells out : List ℕ) where
-  -- the table or what is lent is refused
-  pub turned_away : (r : Refusal) (x : Taken) → IsErr x × IsErrAnd x (λ e. e ≡ r)
-      → Says bytes (length cells) (length out) (refused (number_of r.reason) r.at) → PlannedWhole bytes cells out x cells out
-  turned_away r x p q =
+  -- the table or what is lent is refused: whatever is answered that says so and is no header, and so a refusal that `?` passes up
+  pub turned_away : (r : Taken) → (kind (said r) ≡ 1 → ⊥) → Says bytes (length cells) (length out) (said r) → PlannedWhole bytes cells out r cells out
+  turned_away r other q =
       inl record {
-        answer = λ rest. passed_up the_plan (lent_rows bytes (length cells) (length out)) r x (header_said (header_block bytes)) rest
-            (λ z. omega (arith, z)) p q;
+        answer = λ rest. stop (lent_rows bytes (length cells) (length out)) (header_said (header_block bytes)) rest other q;
         cells_kept = refl;
         out_kept = refl;
       }
+
+  pub sent_up : (r : Refusal) (x : Taken) → IsErr x × IsErrAnd x (λ e. e ≡ r)
+      → Says bytes (length cells) (length out) (refused (number_of r.reason) r.at) → PlannedWhole bytes cells out x cells out
+  sent_up r x p q =
+      let e = as_it_was the_plan r x p in turned_away x (λ z. omega (arith, ap kind e, z)) (e ∙ q)
 
   -- both are accepted
   module _ {n m H : ℕ} (l : Lent bytes (length cells) (length out) n m H) where

@@ -49,14 +49,17 @@ unit_laws = of_field unit-field unit-laws refl (copy_shared unit-field unit-copy
 abbrev unit_told : Told unit
 unit_told = field_told unit-field unit-laws
 
-abbrev HeldWritten : Written → Type 0
+abbrev pub HeldWritten : Written → Type 0
 HeldWritten = Held unit unit_laws unit_told
+
+pub some_done : (x : Written) × HeldWritten x × (said x ≡ written)
+some_done = (Ok tt, (vunit ∷ [], (refl, ((vunit ∷ [], tt), (refl, (refl, tt))))), refl)
 
 -- a block at the front of a buffer with room
 module _ (A : List Row) (block before : List ℕ) (each : Each Fits A) (whole : NoneGiven A → (length block ≡ 512) × (512 ≤ length before)) where
   some_written : Some Fits said HeldWritten A written before (block ++ drop 512 before)
   some_written = some Fits said HeldWritten A written before (block ++ drop 512 before) each
-      (some_refusal unit unit_laws unit_told (λ x. written)) (λ none. (Ok tt, (vunit ∷ [], (refl, ((vunit ∷ [], tt), (refl, (refl, tt))))), refl))
+      (some_refusal unit unit_laws unit_told (λ x. written)) (λ none. some_done)
 
   as_long : length some_written.left ≡ length before
   as_long =

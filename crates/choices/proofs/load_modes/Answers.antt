@@ -1,4 +1,4 @@
-use Prim.Native.Nat.{ℕ, ◌<◌}
+use Prim.Native.Nat.{ℕ, ◌≤◌, ◌<◌}
 use native.Mathlib.Nat.{zero-add}
 use native.Mathlib.Numerals.{add-one}
 use native.Mathlib.Omega.{arith}
@@ -12,11 +12,12 @@ use Rattle.block.specs.declared.Task.{Task}
 use Rattle.model.specs.Plan.{Choice}
 use Rattle.model.specs.Turns.{each_from}
 use Rattle.model.proofs.Turns.{each_length, each_more}
+use Rattle.model.proofs.Bounds.{cost_most}
 use Rattle.cells.specs.inner.Rows.{held}
 use Rattle.table.specs.Numbers.{task_numbers_in}
 use Rattle.choices.specs.inner.Modes.{need_by, mode_of}
 use Rattle.choices.proofs.Prices.{demand_is, priced}
-use Rattle.choices.proofs.Tables.{demand_limit, cost_limit}
+use Rattle.choices.proofs.Tables.{demand_limit}
 use Rattle.choices.proofs.load_modes.Goals as goal
 
 pub loop-j-init : goal.loop-j-init
@@ -39,11 +40,9 @@ invariant_of-push c =
     let t = task_numbers_in a.block.now in
     let j = c.loop-j.j in
     let h : j < t.modes = rw (← ap (λ (x : Task). x.modes) c.read-task.ensures) c.loop-j-test.true in
-    let price =
-    priced a.common t j c.cost.ensures (ap (λ (x : Task). x.elasticity) c.read-task.ensures)
-    (demand_is a.common a.block.now 0 _ _ c.demand-nominal.ensures c.figures_at.ensures)
-    (demand_is a.common a.block.now j _ _ c.demand.ensures c.figures_at-figures.ensures) in
-    record { bounded = rw price (cost_limit a.common t j c.requires h) }
+    let nominal : c.demand-nominal.result ≤ 6400000 = rw (demand_is a.common a.block.now 0 _ _ c.demand-nominal.ensures c.figures_at.ensures) (demand_limit a.common t 0 c.requires (omega arith)) in
+    let demand : c.demand.result ≤ 6400000 = rw (demand_is a.common a.block.now j _ _ c.demand.ensures c.figures_at-figures.ensures) (demand_limit a.common t j c.requires h) in
+    record { bounded = rw c.cost.ensures (cost_most _ _ _ nominal demand) }
 
 pub push-requires : goal.push-requires
 push-requires c =

@@ -4,12 +4,12 @@ use Rattle.answer.proofs.Elses.{answered, by_reason}
 use Rattle.table.specs.Order.{header_block, header_said, table_rows}
 use Rattle.table.proofs.Accepted.{answered_none, plans}
 use Rattle.choices.proofs.Tables.{count_is}
-use Rattle.taking.proofs.Lent.{turned_away, short_workspace, short_output, enough}
+use Rattle.taking.proofs.Lent.{sent_up, short_workspace, short_output, enough}
 use Rattle.taking.proofs.check_lent.Goals as goal
 
 pub returns-in_err-header : goal.returns-in_err-header
 returns-in_err-header c =
-    turned_away c.args.table.now c.args.cells c.args.out _ _ c.from_residual.ensures c.in_err-header.ensures
+    sent_up c.args.table.now c.args.cells c.args.out _ _ c.from_residual.ensures c.in_err-header.ensures
 
 pub invariant_of-checked : goal.invariant_of-checked
 invariant_of-checked c =

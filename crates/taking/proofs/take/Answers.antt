@@ -4,12 +4,12 @@ use Rattle.answer.proofs.Elses.{by_reason}
 use Rattle.model.specs.Workspace.{cell_count}
 use Rattle.choices.proofs.Tables.{count_is}
 use Rattle.taking.proofs.Lent.{called}
-use Rattle.taking.proofs.Exits.{turned_away, above, below, taken}
+use Rattle.taking.proofs.Exits.{sent_up, above, below, taken}
 use Rattle.taking.proofs.take.Goals as goal
 
 pub returns-in_err-header : goal.returns-in_err-header
 returns-in_err-header c =
-    turned_away c.args.table.now c.args.cells.now c.args.progress c.args.out.now _ _ c.from_residual.ensures c.in_err-header.ensures
+    sent_up c.args.table.now c.args.cells.now c.args.progress c.args.out.now _ _ c.from_residual.ensures c.in_err-header.ensures
 
 pub invariant_of-checked : goal.invariant_of-checked
 invariant_of-checked c =

@@ -11,12 +11,12 @@ use Rattle.choices.specs.Tasks.{tasks_of_table}
 use Rattle.choices.proofs.Tables.{count_is}
 use Rattle.portions.specs.Portion.{rule_of}
 use Rattle.taking.proofs.Lent.{called}
-use Rattle.whole.proofs.Wholes.{turned_away, unfit, planned}
+use Rattle.whole.proofs.Wholes.{sent_up, unfit, planned}
 use Rattle.whole.proofs.plan_whole.Goals as goal
 
 pub returns-in_err-header : goal.returns-in_err-header
 returns-in_err-header c =
-    turned_away c.args.table.now c.args.cells.now c.args.out.now _ _ c.from_residual.ensures c.in_err-header.ensures
+    sent_up c.args.table.now c.args.cells.now c.args.out.now _ _ c.from_residual.ensures c.in_err-header.ensures
 
 pub invariant_of-checked : goal.invariant_of-checked
 invariant_of-checked c =

@@ -1,0 +1,4 @@
+-- For the contracts of functions that no user calls.
+
+-- a block's numbers together
+pub mod Records
