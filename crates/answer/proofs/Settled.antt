@@ -10,6 +10,10 @@ use Rattle.answer.proofs.Reason.number.Kinds as number_kinds
 use Rattle.answer.proofs.Reason.number.Reads as number_reads
 use Rattle.answer.proofs.Reason.at.Kinds as at_kinds
 use Rattle.answer.proofs.Reason.at.Reads as at_reads
+use Rattle.answer.proofs.ReasonPartialEq.eq.Kinds as reason_eq_kinds
+use Rattle.answer.proofs.ReasonPartialEq.eq.Reads as reason_eq_reads
+use Rattle.answer.proofs.RefusalPartialEq.eq.Kinds as refusal_eq_kinds
+use Rattle.answer.proofs.RefusalPartialEq.eq.Reads as refusal_eq_reads
 
 -- of a refusal, and so of any answer that says what else was asked for
 module _ {A : Type 0} (says : A → Said) (same : (x y : A) → says x ≡ says y → x ≡ y) (other : (x : A) → kind (says x) ≡ 0 → ⊥) where
@@ -27,3 +31,9 @@ number_one κs a x y s t p q = (p ∙ sym q, refl)
 
 pub at_one : One at_kinds.ps at_kinds.r at_reads.Post
 at_one κs a x y s t p q = (p ∙ sym q, refl)
+
+pub reason_eq_one : One reason_eq_kinds.ps reason_eq_kinds.r reason_eq_reads.Post
+reason_eq_one κs a x y s t p q = (p ∙ sym q, refl)
+
+pub refusal_eq_one : One refusal_eq_kinds.ps refusal_eq_kinds.r refusal_eq_reads.Post
+refusal_eq_one κs a x y s t p q = (p ∙ sym q, refl)

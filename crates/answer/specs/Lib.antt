@@ -6,5 +6,3 @@ pub mod Said
 pub mod Order
 -- that a promise settles its outcome
 pub mod One
--- what the text of a refusal is: nothing here has to be believed
-pub mod inner

@@ -1,15 +1,11 @@
 // A refusal: why, by the document's table of refusal numbers, and the place that it names.
 #![tactic(auto)]
 
-ghost use Rattle.std.specs.Prelude.{◌≡◌, Some};
+ghost use Rattle.std.specs.Prelude.{◌≡◌};
 ghost use Rattle.answer.specs.Said.{number_of};
-ghost use Rattle.answer.specs.inner.Printed.{printed};
-
-use std::error::Error;
-use std::fmt;
 
 // Why a call is refused, with the document's refusal numbers.
-#[derive(Clone, Copy, Debug, PartialEq, Eq)]
+#[derive(Clone, Copy, PartialEq, Eq)]
 pub enum Reason {
     Length = 1,
     Check = 2,
@@ -50,18 +46,8 @@ impl Reason {
     }
 }
 
-#[derive(Clone, Copy, Debug, PartialEq, Eq)]
+#[derive(Clone, Copy, PartialEq, Eq)]
 pub struct Refusal {
     pub reason: Reason,
     pub at: u32,
 }
-
-impl fmt::Display for Refusal {
-    ghost output = { λ r. Some (printed r) };
-
-    fn fmt<W: fmt::Write>(&self, f: &mut fmt::Formatter<W>) -> fmt::Result {
-        write!(f, "refused {} at {}", self.reason.number(), self.at)
-    }
-}
-
-impl Error for Refusal {}

@@ -1,6 +1,13 @@
 -- Each public promise settles its outcome. Assumes nothing.
 use mathlib.Core.Path.{refl, sym, ◌∙◌}
+use denote.RattleType.{RattleType}
+use denote.Param.Laws.{Laws}
+use mir.Syntax.{Dict}
 use Rattle.answer.specs.One.{One}
+use Rattle.block.specs.declared.Number.{Ghosts}
+use Rattle.block.specs.contracts.Number.TheBound.{Lawful}
+use Rattle.block.proofs.Number.get.Kinds as get_kinds
+use Rattle.block.proofs.Number.get.Reads as get_reads
 use Rattle.block.proofs.U8Number.get.Kinds as u8_get_kinds
 use Rattle.block.proofs.U8Number.get.Reads as u8_get_reads
 use Rattle.block.proofs.U16Number.get.Kinds as u16_get_kinds
@@ -31,6 +38,15 @@ use Rattle.block.proofs.wrong_period.Kinds as wrong_period_kinds
 use Rattle.block.proofs.wrong_period.Reads as wrong_period_reads
 use Rattle.block.proofs.wrong_work.Kinds as wrong_work_kinds
 use Rattle.block.proofs.wrong_work.Reads as wrong_work_reads
+use Rattle.block.proofs.HeaderPartialEq.eq.Kinds as header_eq_kinds
+use Rattle.block.proofs.HeaderPartialEq.eq.Reads as header_eq_reads
+use Rattle.block.proofs.TaskPartialEq.eq.Kinds as task_eq_kinds
+use Rattle.block.proofs.TaskPartialEq.eq.Reads as task_eq_reads
+
+-- of whatever is a `Number`, by the law of the trait
+pub get_one : (T : RattleType) (L : Laws T) (number : Ghosts T.Denot) (methods : Dict) → Lawful T number methods
+    → One (get_kinds.ps T L) (get_kinds.r T L) (get_reads.Post T L number methods)
+get_one T L number methods lawful κs a x y s t p q = (lawful.laws x y (p ∙ sym q), refl)
 
 pub u8_get_one : One u8_get_kinds.ps u8_get_kinds.r u8_get_reads.Post
 u8_get_one κs a x y s t p q = (p ∙ sym q, refl)
@@ -76,3 +92,9 @@ wrong_work_one κs a x y s t p q = (p ∙ sym q, refl)
 
 pub figures_at_one : One figures_at_kinds.ps figures_at_kinds.r figures_at_reads.Post
 figures_at_one κs a x y s t p q = (p ∙ sym q, refl)
+
+pub header_eq_one : One header_eq_kinds.ps header_eq_kinds.r header_eq_reads.Post
+header_eq_one κs a x y s t p q = (p ∙ sym q, refl)
+
+pub task_eq_one : One task_eq_kinds.ps task_eq_kinds.r task_eq_reads.Post
+task_eq_one κs a x y s t p q = (p ∙ sym q, refl)

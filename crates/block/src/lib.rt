@@ -28,12 +28,17 @@ pub trait Number: Sized {
     // The number at an offset, whatever the offset.
     fn get(block: &[u8], at: usize) -> Self
         ensures { value result ≡ number width at block.now };
+
+    // The value is all that there is to it.
+    ghost laws: { (x y : Self) → value x ≡ value y → x ≡ y };
 }
 
 impl Number for u8 {
     ghost width = { 1 };
 
     ghost value = { λ x. x };
+
+    ghost laws = { λ x y same. same };
 
     fn get(block: &[u8], at: usize) -> u8 {
         block.get(at).copied().unwrap_or(0)
@@ -44,6 +49,8 @@ impl Number for u16 {
     ghost width = { 2 };
 
     ghost value = { λ x. x };
+
+    ghost laws = { λ x y same. same };
 
     fn get(block: &[u8], at: usize) -> u16 {
         let low = u8::get(block, at);
@@ -57,6 +64,8 @@ impl Number for u32 {
     ghost width = { 4 };
 
     ghost value = { λ x. x };
+
+    ghost laws = { λ x y same. same };
 
     fn get(block: &[u8], at: usize) -> u32 {
         let low = u16::get(block, at);
@@ -90,7 +99,7 @@ pub fn is_zero(block: &[u8], from: usize, to: usize) -> bool
 }
 
 // The numbers of a header block: how many tasks and cores, and the common period.
-#[derive(Clone, Copy, Debug, PartialEq, Eq)]
+#[derive(Clone, Copy, PartialEq, Eq)]
 pub struct Header {
     pub tasks: u16,
     pub cores: u16,
@@ -129,7 +138,7 @@ pub fn wrong_common(common: u32) -> bool
 }
 
 // The numbers of a task block: the elasticity, how many modes it has, and which of them are permitted, as a mask.
-#[derive(Clone, Copy, Debug, PartialEq, Eq)]
+#[derive(Clone, Copy, PartialEq, Eq)]
 pub struct Task {
     pub elasticity: u8,
     pub modes: u8,

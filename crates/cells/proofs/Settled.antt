@@ -14,6 +14,8 @@ use Rattle.cells.proofs.mode.ModeDefault.default.Kinds as default_kinds
 use Rattle.cells.proofs.mode.ModeDefault.default.Reads as default_reads
 use Rattle.cells.proofs.fill_run.Kinds as fill_run_kinds
 use Rattle.cells.proofs.fill_run.Reads as fill_run_reads
+use Rattle.cells.proofs.mode.ModePartialEq.eq.Kinds as mode_eq_kinds
+use Rattle.cells.proofs.mode.ModePartialEq.eq.Reads as mode_eq_reads
 
 pub reads_one : One reads_kinds.ps reads_kinds.r reads_reads.Post
 reads_one κs a x y s t p q = (p ∙ sym q, refl)
@@ -29,3 +31,6 @@ default_one κs a x y s t p q = (by_numbers x y (p.0 ∙ sym q.0) (p.1 ∙ sym q
 
 pub fill_run_one : One fill_run_kinds.ps fill_run_kinds.r fill_run_reads.Post
 fill_run_one κs a x y s t p q = (refl, ap (λ (d : List ℕ). (tt, (tt, (d, (tt, tt))))) (p ∙ sym q))
+
+pub mode_eq_one : One mode_eq_kinds.ps mode_eq_kinds.r mode_eq_reads.Post
+mode_eq_one κs a x y s t p q = (p ∙ sym q, refl)

@@ -6,7 +6,7 @@ use crate::next_row::NextRow;
 use crate::{count_of, reads};
 
 // A mode that may be chosen wherever its cores allow it. One that may not be chosen has a need above every column.
-#[derive(Clone, Copy, Debug, PartialEq, Eq)]
+#[derive(Clone, Copy, PartialEq, Eq)]
 pub struct Mode {
     pub need: u64,
     pub cost: u64,

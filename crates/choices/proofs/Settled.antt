@@ -34,6 +34,8 @@ use Rattle.choices.proofs.load_modes.Kinds as load_modes_kinds
 use Rattle.choices.proofs.load_modes.Reads as load_modes_reads
 use Rattle.choices.proofs.ask_choice.Kinds as ask_choice_kinds
 use Rattle.choices.proofs.ask_choice.Reads as ask_choice_reads
+use Rattle.choices.proofs.ChoicePartialEq.eq.Kinds as choice_eq_kinds
+use Rattle.choices.proofs.ChoicePartialEq.eq.Reads as choice_eq_reads
 
 pub need_of_one : One need_of_kinds.ps need_of_kinds.r need_of_reads.Post
 need_of_one κs a x y s t p q = (p ∙ sym q, refl)
@@ -86,3 +88,6 @@ some_asked bytes b i j =
 pub ask_choice_some : AtLeastOne ask_choice_kinds.ps ask_choice_kinds.r (λ κs a. Bytes a.0.now) ask_choice_reads.Post
 ask_choice_some κs a b =
     let (r, held, said_is) = some_asked a.0.now b a.1.0 a.1.1.0 in (r, (tt, (tt, (tt, tt))), held, (tt, (tt, (tt, tt))), said_is)
+
+pub choice_eq_one : One choice_eq_kinds.ps choice_eq_kinds.r choice_eq_reads.Post
+choice_eq_one κs a x y s t p q = (p ∙ sym q, refl)

@@ -65,7 +65,7 @@ pub fn load_modes(block: &[u8], common: u32, modes: &mut ArrayVec<Mode, MOST_MOD
 }
 
 // A mode as the planner sees it.
-#[derive(Clone, Copy, Debug, PartialEq, Eq)]
+#[derive(Clone, Copy, PartialEq, Eq)]
 pub struct Choice {
     pub permitted: bool,
     pub cores: u32,

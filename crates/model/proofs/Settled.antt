@@ -11,6 +11,8 @@ use Rattle.model.proofs.Figures.demand.Kinds as demand_kinds
 use Rattle.model.proofs.Figures.demand.Reads as demand_reads
 use Rattle.model.proofs.cost.Kinds as cost_kinds
 use Rattle.model.proofs.cost.Reads as cost_reads
+use Rattle.model.proofs.FiguresPartialEq.eq.Kinds as figures_eq_kinds
+use Rattle.model.proofs.FiguresPartialEq.eq.Reads as figures_eq_reads
 
 -- what is said of a mode's cores is the whole of them
 said_one : (x y : Option ℕ) → said x ≡ said y → x ≡ y
@@ -30,3 +32,6 @@ demand_one κs a x y s t p q = (p ∙ sym q, refl)
 
 pub cost_one : One cost_kinds.ps cost_kinds.r cost_reads.Post
 cost_one κs a x y s t p q = (p ∙ sym q, refl)
+
+pub figures_eq_one : One figures_eq_kinds.ps figures_eq_kinds.r figures_eq_reads.Post
+figures_eq_one κs a x y s t p q = (p ∙ sym q, refl)

@@ -18,7 +18,7 @@ pub const WIDEST: usize = MOST_CORES + 1;
 pub const MOST_CELLS: usize = (MOST_TASKS + 1) * WIDEST;
 
 // A mode's figures, in ticks: the work of one job, its longest chain of work, and how often a job comes round.
-#[derive(Clone, Copy, Debug, PartialEq, Eq)]
+#[derive(Clone, Copy, PartialEq, Eq)]
 pub struct Figures {
     pub work: u32,
     pub span: u32,

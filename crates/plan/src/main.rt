@@ -1,13 +1,15 @@
 // Reads a table from standard input and prints its plan, or the refusal. No rule of its own.
 #![tactic(auto)]
 
-ghost use Rattle.std.specs.Prelude.{◌≤◌, length};
+ghost use Rattle.std.specs.Prelude.{◌≤◌, ◌++◌, length, codes, Some};
+ghost use Rattle.std.specs.Fmt.{decimal};
+ghost use Rattle.answer.specs.Said.{number_of};
 
 use answer::{Reason, Refusal};
 use choices::ask_choice;
 use model::{MOST_CELLS, MOST_TASKS};
-use std::io;
 use std::io::Read;
+use std::{fmt, io};
 use table::check;
 use taking::Plan;
 use whole::plan_whole;
@@ -35,8 +37,20 @@ fn show_plan(rt: &impl Print, table: &[u8], plan: Plan, modes: &[u8]) -> io::Res
     Ok(())
 }
 
+// A refusal as it is printed: its number and its place.
+#[derive(Clone, Copy)]
+struct Shown(Refusal);
+
+impl fmt::Display for Shown {
+    ghost output = { λ shown. Some (codes "refused " ++ (decimal (number_of shown.0.reason) ++ (codes " at " ++ decimal shown.0.at))) };
+
+    fn fmt<W: fmt::Write>(&self, f: &mut fmt::Formatter<W>) -> fmt::Result {
+        write!(f, "refused {} at {}", self.0.reason.number(), self.0.at)
+    }
+}
+
 fn show_refusal(rt: &impl Print, refusal: Refusal) -> io::Result<()> {
-    println!(rt; "{refusal}")
+    println!(rt; "{}", Shown(refusal))
 }
 
 fn answer(rt: &impl Print, table: &[u8]) -> io::Result<()> {

@@ -10,7 +10,7 @@ use writer::{write_header, write_task};
 fn show(rt: &impl Print, answer: Result<(), Refusal>, block: &[u8]) -> io::Result<()> {
     match answer {
         Ok(()) => rt.write_all(block),
-        Err(refusal) => println!(rt; "{refusal}"),
+        Err(refusal) => println!(rt; "refused {} at {}", refusal.reason.number(), refusal.at),
     }
 }
 

@@ -1,14 +1,17 @@
 -- Each reply is settled, with all that the call leaves behind: the call's own promise settles its answer. Assumes nothing.
 use Prim.Native.Nat.{ℕ}
-use contract.Lifetimes.{Lfts}
 use denote.RattleType.{RattleType}
+use denote.Exit.{no}
+use denote.Enum.Declared.{row}
+use denote.Param.{param}
 use denote.Param.Laws.{Laws}
-use denote.Triple.Clauses.{Lasts, at_exit}
-use borrow.Fn.Kinds.{Dens, ended_of}
+use denote.Param.Mute.{Mute, Mute-seen, Mute-still, enum-Mute}
 use mir.Syntax.{Dict}
 use mathlib.Core.List.{List}
-use mathlib.Core.Path.{◌≡◌, sym, ap, ◌∙◌}
+use mathlib.Core.Path.{◌≡◌, refl, sym, ap, ◌∙◌}
 use Rattle.answer.proofs.Outcomes.{outcome_one}
+use Rattle.std.specs.contracts.result.Result.{the_type}
+use Rattle.answer.specs.contracts.Refusal.{the_row}
 use Rattle.answer.specs.Said.{Said, said_of}
 use Rattle.answer.specs.One.{One}
 use Rattle.table.proofs.Settled as table_settled
@@ -46,6 +49,8 @@ use Rattle.shunguleta.proofs.shunguleta_write_task.Kinds as write_task_kinds
 use Rattle.shunguleta.proofs.shunguleta_write_task.Reads as write_task_reads
 use Rattle.shunguleta.proofs.shunguleta_plan_whole.Kinds as plan_whole_kinds
 use Rattle.shunguleta.proofs.shunguleta_plan_whole.Reads as plan_whole_reads
+use Rattle.shunguleta.proofs.ReplyPartialEq.eq.Kinds as reply_eq_kinds
+use Rattle.shunguleta.proofs.ReplyPartialEq.eq.Reads as reply_eq_reads
 
 -- where a call's promises settle its answer and what it leaves, they settle the reply
 settled : {A Left : Type 0} (said : A → Said) {P Q : A → Type 0} {x y : Reply} {s t : Left}
@@ -85,10 +90,14 @@ write_task_one κs a x y s t =
 pub plan_whole_one : One plan_whole_kinds.ps plan_whole_kinds.r plan_whole_reads.Post
 plan_whole_one κs a x y s t = settled taken_said (λ b c. whole_settled.plan_whole_one κs a b c s t)
 
--- the reply to an answer, whatever it is that a call gives; what is left behind references in that is its giver's promise
-pub from_one : (T : RattleType) (L : Laws T) (says : given.Ghosts T.Denot) (methods : Dict) (κs : Lfts 1) (a : Dens κs (from_kinds.ps T L))
-    → (x y : Reply) (s t : Lasts (ended_of 1 (from_kinds.ps T L) (from_kinds.r T L)) κs a)
-    → from_reads.Post T L says methods κs a x (at_exit (ended_of 1 (from_kinds.ps T L) (from_kinds.r T L)) κs a s)
-    → from_reads.Post T L says methods κs a y (at_exit (ended_of 1 (from_kinds.ps T L) (from_kinds.r T L)) κs a t)
-    → x ≡ y
-from_one T L says methods κs a x y s t p q = p ∙ sym q
+-- nothing is left of an answer that is handed on
+spent : (T : RattleType) → Mute ((row (the_type (param 0 T) the_row)).exit no)
+spent T = enum-Mute (the_type (param 0 T) the_row) no ((Mute-seen λ x. tt, tt), ((Mute-still, tt), tt))
+
+-- the reply to an answer, whatever it is that a call gives
+pub from_one : (T : RattleType) (L : Laws T) (says : given.Ghosts T.Denot) (methods : Dict)
+    → One (from_kinds.ps T L) (from_kinds.r T L) (from_reads.Post T L says methods)
+from_one T L says methods κs a x y s t p q = (p ∙ sym q, ap (λ w. (w, tt)) ((spent T).once a.0 s.0 ∙ sym ((spent T).once a.0 t.0)))
+
+pub reply_eq_one : One reply_eq_kinds.ps reply_eq_kinds.r reply_eq_reads.Post
+reply_eq_one κs a x y s t p q = (p ∙ sym q, refl)

@@ -23,7 +23,7 @@ use taking::Plan;
 
 // An answer: a refusal's number and place; or number 0, and the call's values in their order, 0 for the rest.
 #[repr(C)]
-#[derive(Clone, Copy, Debug, PartialEq, Eq)]
+#[derive(Clone, Copy, PartialEq, Eq)]
 pub struct Reply {
     pub number: u32,
     pub at: u32,

@@ -42,6 +42,8 @@ use Rattle.taking.proofs.check_lent.Kinds as check_lent_kinds
 use Rattle.taking.proofs.check_lent.Reads as check_lent_reads
 use Rattle.taking.proofs.take.Kinds as take_kinds
 use Rattle.taking.proofs.take.Reads as take_reads
+use Rattle.taking.proofs.PlanPartialEq.eq.Kinds as plan_eq_kinds
+use Rattle.taking.proofs.PlanPartialEq.eq.Reads as plan_eq_reads
 
 -- what is said of an answer is the whole of it
 pub one_answer : (x y : Taken) → said x ≡ said y → x ≡ y
@@ -114,3 +116,6 @@ pub take_some : AtLeastOne take_kinds.ps take_kinds.r (λ κs a. Bytes a.0.now) 
 take_some κs (table, (cells, (p, (out, rest)))) is =
     let o = some_taken table.now cells.now p out.now is in
     (o.answer, (tt, (tt, (tt, (o.left, tt)))), o.held, (tt, (tt, (tt, (as_long table.now cells.now p out.now is, tt)))), o.allowed)
+
+pub plan_eq_one : One plan_eq_kinds.ps plan_eq_kinds.r plan_eq_reads.Post
+plan_eq_one κs a x y s t p q = (p ∙ sym q, refl)

@@ -22,7 +22,7 @@ use model::MOST_TASKS;
 use table::{Checked, check, task_block};
 
 // A plan that was taken: the cores used, and the cost.
-#[derive(Clone, Copy, Debug, PartialEq, Eq)]
+#[derive(Clone, Copy, PartialEq, Eq)]
 pub struct Plan {
     pub cores: u32,
     pub cost: u64,
