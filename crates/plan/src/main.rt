@@ -37,7 +37,7 @@ fn show_plan(rt: &impl Print, table: &[u8], plan: Plan, modes: &[u8]) -> io::Res
     Ok(())
 }
 
-// A refusal as it is printed: its number and its place.
+// A refusal as it is printed: its number and its place. The type is private, since no public `fmt` has a settled outcome.
 #[derive(Clone, Copy)]
 struct Shown(Refusal);
 
